@@ -1,0 +1,57 @@
+// Rules between two fields, as they are entered and kept.
+
+ghost use mathlib.Core.Path.{_≡_};
+ghost use Rattle.network.specs.Kinds.{kind-of};
+
+// One of the two ends of a rule.
+#[derive(Clone, Copy, PartialEq, Eq, Debug)]
+pub enum Side {
+    Left,
+    Right,
+}
+
+// The two fields that a rule stands between.
+#[derive(Clone, Copy, PartialEq, Eq, Debug)]
+pub struct Ends {
+    pub left: u8,
+    pub right: u8,
+}
+
+// How a formula rule compares the difference of its two options, left less right, with its number D.
+#[derive(Clone, Copy, PartialEq, Eq, Debug)]
+pub enum Kind {
+    // the difference is D
+    Equal,
+    // the difference is not D
+    Different,
+    // the difference is at most D
+    AtMost,
+    // the options lie at least D apart
+    Apart,
+    // any other number: allows no pair
+    Unknown,
+}
+
+impl Kind {
+    // The kind that a number stands for.
+    pub fn of_number(number: u8) -> Kind
+        ensures { λ k. ⌜ k ≡ kind-of number ⌝ }
+    {
+        match number {
+            0 => Kind::Equal,
+            1 => Kind::Different,
+            2 => Kind::AtMost,
+            3 => Kind::Apart,
+            _ => Kind::Unknown,
+        }
+    }
+}
+
+// A rule by a formula on the difference of its two options.
+#[derive(Clone, Copy, PartialEq, Eq, Debug)]
+pub struct FormulaRule {
+    pub left: u8,
+    pub right: u8,
+    pub kind: Kind,
+    pub difference: i8,
+}
