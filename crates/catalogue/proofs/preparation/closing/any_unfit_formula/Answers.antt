@@ -1,0 +1,20 @@
+use mathlib.Core.Path.{sym, ap, _∙_}
+use lib.ListN.{drop}
+use lib.IntN.{pos}
+use Rattle.network.specs.declared.rules.Kind.the-variants.{Equal}
+use Rattle.catalogue.specs.Content.{any, no-fields}
+use Rattle.std.proofs.shelf.Lists.{drop-all}
+use Rattle.catalogue.proofs.Any.{any-here, any-next}
+use Rattle.catalogue.proofs.preparation.closing.any_unfit_formula.Needs as need
+
+pub returns-then-no-fields : need.returns-then-no-fields
+returns-then-no-fields c =
+    any-here (λ f. no-fields (c .args .fields) (f .left) (f .right)) (c .args .formulas .now) (c .loop-rule .rule-index) (record { left = 0; right = 0; kind = Equal; difference = pos 0 }) (c .loop-rule-test .taken) (sym (c .if-no-fields .ensures tt)) (c .loop-rule .inv)
+
+pub loop-rule-again : need.loop-rule-again
+loop-rule-again c =
+    any-next (λ f. no-fields (c .args .fields) (f .left) (f .right)) (c .args .formulas .now) (c .loop-rule .rule-index) (record { left = 0; right = 0; kind = Equal; difference = pos 0 }) (c .loop-rule-test .taken) (sym (c .if-no-fields .ensures tt)) (c .loop-rule .inv)
+
+pub returns : need.returns
+returns c =
+    sym (ap (any (λ f. no-fields (c .args .fields) (f .left) (f .right))) (drop-all (c .loop-rule .rule-index) (c .args .formulas .now) (c .loop-rule-test .left))) ∙ c .loop-rule .inv
