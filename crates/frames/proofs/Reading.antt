@@ -54,7 +54,10 @@ module _ {X : Type 0} where
   refused : (e : LineFault) (n : ℕ) → Err e ≡ Ok n → X
   refused e n h = let z : _≡_ {A = ℕ} 0 1 = cc in absurd (omega arith)
 
-told : (m n : ℕ) → _≡_ {A = Result ℕ LineFault} (Ok m) (Ok n) → m ≡ n
+pub no-fault : {X : Type 0} (n : ℕ) (e : LineFault) → Ok n ≡ Err e → X
+no-fault n e h = refused e n (sym h)
+
+pub told : (m n : ℕ) → _≡_ {A = Result ℕ LineFault} (Ok m) (Ok n) → m ≡ n
 told m n h = cc
 
 -- a test that would refuse was not met
@@ -163,6 +166,15 @@ module _ (room n : ℕ) (line frame : List ℕ) (ok : Ok n ≡ reading room line
 
   pub written : line ≡ line-of (take n frame)
   written = joined line (facts .end) ∙ ap (λ d. d ++ 10 ∷ []) (sym (ap (λ k. digits (take k frame)) (sym count) ∙ bytes ∙ body))
+
+  pub is-frame : 16 ≤ length frame → ((k : ℕ) → getD frame k 0 < 256) → Is-frame (take n frame)
+  is-frame wide fit =
+      let size : length (take n frame) ≡ n = length-take-le n frame (omega (arith, whole, facts .short)) in
+      record {
+        some = omega (arith, facts .some, whole);
+        few = omega (arith, facts .short, whole);
+        fit = λ k. front-fits frame n k (fit k);
+      }
 
   pub reads-as : ((k : ℕ) → getD frame k 0 < 256) → (other : List ℕ) → Is-frame other → line ≡ line-of other → (n ≡ length other) × (take (length other) frame ≡ other)
   reads-as fit other f is =

@@ -145,7 +145,7 @@ fn write_bytes(body: &[u8], frame: &mut [u8])
 // that frame.
 pub fn read_line(line: &[u8], frame: &mut [u8]) -> Result<usize, LineFault>
     ensures answer { λ r. ⌜ r ≡ reading (length (now (frame .entry))) (now (line .entry)) ⌝ }
-    ensures after { λ r. ⌜ ByOk r (λ n. (now (line .entry) ≡ line-of (take n (now (frame .exit)))) × (drop n (now (frame .exit)) ≡ drop n (now (frame .entry)))) (λ _. now (frame .exit) ≡ now (frame .entry)) ⌝ }
+    ensures after { λ r. ⌜ ByOk r (λ n. Is-frame (take n (now (frame .exit))) × (now (line .entry) ≡ line-of (take n (now (frame .exit)))) × (drop n (now (frame .exit)) ≡ drop n (now (frame .entry)))) (λ _. now (frame .exit) ≡ now (frame .entry)) ⌝ }
     ensures back { λ r. ⌜ ((bytes : List ℕ) → Is-frame bytes → now (line .entry) ≡ line-of bytes → frame-limit ≤ length (now (frame .entry)) → (r ≡ Ok (length bytes)) × (take (length bytes) (now (frame .exit)) ≡ bytes)) ⌝ }
 {
     if frame.len() < FRAME_BYTES {

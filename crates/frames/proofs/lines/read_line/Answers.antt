@@ -5,7 +5,7 @@ use lib.ListN.{length, getD, drop}
 use Rattle.std.specs.declared.result.Result.the-variants.{Ok, Err}
 use Rattle.std.proofs.shelf.Results.{err-from-errBy}
 use Rattle.frames.specs.Lines.{reading}
-use Rattle.frames.proofs.Reading.{same-reading, no-frame, count, written, reads-as}
+use Rattle.frames.proofs.Reading.{same-reading, no-frame, count, written, is-frame, reads-as}
 use Rattle.frames.proofs.lines.read_line.Needs as need
 
 pub returns-in-Break-size : need.returns-in-Break-size
@@ -27,6 +27,10 @@ returns c =
     let size = count room n line frame answer (made .bytes) in
     record {
       answer = answer;
-      after = (written room n line frame answer (made .bytes), ap (λ k. drop k frame) (sym size) ∙ made .behind ∙ ap (λ k. drop k (c .args .frame .now)) size);
+      after = (
+        is-frame room n line frame answer (made .bytes) (omega (arith, c .write-bytes .kept .frame)) fit,
+        written room n line frame answer (made .bytes),
+        ap (λ k. drop k frame) (sym size) ∙ made .behind ∙ ap (λ k. drop k (c .args .frame .now)) size,
+      );
       back = λ bytes f is wide. let r = reads-as room n line frame answer (made .bytes) fit bytes f is in (ap Ok (r .0), r .1);
     }
