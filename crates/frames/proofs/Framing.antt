@@ -21,10 +21,12 @@ use Rattle.frames.specs.Lines.{Is-frame}
 use Rattle.frames.specs.Frames.{set-at, signed, sized, of-kind, decoding, set-bytes, byte-of, frame-bytes, Signed-byte, Fits}
 
 -- four bytes and a word
-word-back : (k f : ℕ) (s : OptionSet) → set-at (k ∷ (f ∷ set-bytes s)) 2 ≡ s
-word-back k f s =
+word-back : (k f : ℕ) (s : OptionSet) → s .word < 2 ^ 32 → set-at (k ∷ (f ∷ set-bytes s)) 2 ≡ s
+word-back k f s h =
     let w = s .word in
-    let same : ((w / 16777216 * 256 + w / 65536 % 256) * 256 + w / 256 % 256) * 256 + w % 256 ≡ w = omega arith in
+    let low : w / 16777216 < 256 = omega arith in
+    let top : w / 16777216 % 256 ≡ w / 16777216 = omega arith in
+    let same : ((w / 16777216 % 256 * 256 + w / 65536 % 256) * 256 + w / 256 % 256) * 256 + w % 256 ≡ w = omega arith in
     ap (λ v. record { word = v }) same
 
 -- a byte and a signed number
@@ -35,9 +37,9 @@ signed-back (negsuc n) h =
     cond-false _ _ _ (le-ltb (255 - n) 128 (omega arith)) ∙ ap negsuc same
 
 pub decodes : (f : Frame) → Fits f → decoding (frame-bytes f) ≡ Ok f
-decodes (frame.EnterField field s) h = ap (λ t. Ok (frame.EnterField field t)) (word-back 1 field s)
+decodes (frame.EnterField field s) h = ap (λ t. Ok (frame.EnterField field t)) (word-back 1 field s (h .1))
 decodes (frame.StartTable left right) h = refl
-decodes (frame.SetRow option s) h = ap (λ t. Ok (frame.SetRow option t)) (word-back 3 option s)
+decodes (frame.SetRow option s) h = ap (λ t. Ok (frame.SetRow option t)) (word-back 3 option s (h .1))
 decodes (frame.EnterFormula left right kind difference) h = ap (λ d. Ok (frame.EnterFormula left right kind d)) (signed-back difference (h .1 .1 .1))
 decodes frame.Open h = refl
 decodes frame.TightenAndOpen h = refl
@@ -95,14 +97,15 @@ module _ (k : ℕ) where
   six (a ∷ (b ∷ (c ∷ (d ∷ (x ∷ []))))) fit n e = absurd (omega arith)
   six (a ∷ (b ∷ (c ∷ (d ∷ (x ∷ (y ∷ [])))))) fit n e =
       let w = ((c * 256 + d) * 256 + x) * 256 + y in
+      let sc = fit 2 in
       let sd = fit 3 in
       let sx = fit 4 in
       let sy = fit 5 in
-      let p : w / 16777216 ≡ c = omega arith in
+      let p : w / 16777216 % 256 ≡ c = omega arith in
       let q : w / 65536 % 256 ≡ d = omega arith in
       let r : w / 256 % 256 ≡ x = omega arith in
       let s : w % 256 ≡ y = omega arith in
-      ap (λ z. z ∷ (b ∷ (w / 16777216 ∷ (w / 65536 % 256 ∷ (w / 256 % 256 ∷ (w % 256 ∷ [])))))) (sym e)
+      ap (λ z. z ∷ (b ∷ (w / 16777216 % 256 ∷ (w / 65536 % 256 ∷ (w / 256 % 256 ∷ (w % 256 ∷ [])))))) (sym e)
       ∙ ap (λ z. a ∷ (b ∷ (z ∷ (w / 65536 % 256 ∷ (w / 256 % 256 ∷ (w % 256 ∷ [])))))) p
       ∙ ap (λ z. a ∷ (b ∷ (c ∷ (z ∷ (w / 256 % 256 ∷ (w % 256 ∷ [])))))) q
       ∙ ap (λ z. a ∷ (b ∷ (c ∷ (d ∷ (z ∷ (w % 256 ∷ [])))))) r

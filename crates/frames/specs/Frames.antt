@@ -47,7 +47,7 @@ decoding bytes = cond (eqb (length bytes) 0) (Err fault.Unknown) (of-kind bytes 
 
 -- the bytes of a set, highest first, and the byte of a number in two's complement
 abbrev pub set-bytes : OptionSet → List ℕ
-set-bytes s = s .word / 16777216 ∷ (s .word / 65536 % 256 ∷ (s .word / 256 % 256 ∷ (s .word % 256 ∷ [])))
+set-bytes s = s .word / 16777216 % 256 ∷ (s .word / 65536 % 256 ∷ (s .word / 256 % 256 ∷ (s .word % 256 ∷ [])))
 
 abbrev pub byte-of : ℤ → ℕ
 byte-of (pos n) = n

@@ -3,5 +3,6 @@
 // Lines:     lines::read_line, lines::write_line
 // Frames:    frames::Frame, frames::decode, frames::receive
 // Answers:   answers::Answer, Answer::write
+pub mod answers;
 pub mod frames;
 pub mod lines;
