@@ -1,3 +1,4 @@
 pub mod Lines
 pub mod Frames
 pub mod Answers
+pub mod Received

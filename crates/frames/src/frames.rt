@@ -1,15 +1,8 @@
 // Frames in.
 
 ghost use mathlib.Core.Path.{_≡_};
-ghost use mathlib.Core.List.{List};
-ghost use Prim.Native.Nat.{ℕ};
-ghost use Rattle.faults.specs.declared.FrameFault.the-variants.{Line};
-ghost use Rattle.faults.specs.declared.LineFault.{LineFault as TheLineFault};
-ghost use Rattle.std.specs.Vec.{made};
-ghost use Rattle.std.specs.declared.result.Result.the-variants.{Ok, Err};
-ghost use Rattle.frames.specs.Lines.{line-of, Is-frame, reading, frame-limit};
-ghost use Rattle.frames.specs.Frames.{decoding, frame-bytes, Fits};
-ghost use Rattle.frames.specs.declared.frames.Frame.{Frame as TheFrame};
+ghost use Rattle.frames.specs.Frames.{decoding};
+ghost use Rattle.frames.specs.Received.{Received};
 use crate::lines::FRAME_BYTES;
 use crate::lines::read_line;
 use faults::FrameFault;
@@ -109,10 +102,7 @@ pub fn decode(bytes: &[u8]) -> Result<Frame, FrameFault>
 // The frame that a line stands for. A line is accepted just if it is the line of a frame's bytes, and is then taken for
 // that frame.
 pub fn receive(line: &[u8]) -> Result<Frame, FrameFault>
-    ensures bad_line { λ r. ⌜ ((fault : TheLineFault) → reading frame-limit (now (line .entry)) ≡ Err fault → r ≡ Err (Line fault)) ⌝ }
-    ensures good_line { λ r. ⌜ ((bytes : List ℕ) → Is-frame bytes → now (line .entry) ≡ line-of bytes → r ≡ decoding bytes) ⌝ }
-    ensures accepts { λ r. ⌜ ((frame : TheFrame) → Fits frame → now (line .entry) ≡ line-of (frame-bytes frame) → r ≡ Ok frame) ⌝ }
-    ensures only { λ r. ⌜ made r (λ frame. now (line .entry) ≡ line-of (frame-bytes frame)) ⌝ }
+    ensures { λ r. ⌜ Received (now (line .entry)) r ⌝ }
 {
     let mut bytes = [0u8; FRAME_BYTES];
     let size = read_line(line, &mut bytes)?;
