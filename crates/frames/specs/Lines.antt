@@ -14,9 +14,16 @@ use Rattle.faults.specs.declared.LineFault.the-variants.{ShortBuffer, TooLong, 
 use Rattle.faults.specs.declared.FrameFault.{FrameFault}
 use Rattle.faults.specs.declared.FrameFault.the-variants.{Line, Size}
 
--- the most bytes of a frame, and of a line with its line feed
+-- the most bytes of a frame, and of its line
 abbrev pub frame-limit : ℕ
 frame-limit = 16
+
+abbrev pub line-limit : ℕ
+line-limit = 33
+
+-- how many bytes of a line matter: with one more than the longest line has, it is too long whatever follows
+abbrev pub line-reach : ℕ
+line-reach = 34
 
 abbrev pub line-feed : ℕ
 line-feed = 10

@@ -15,8 +15,10 @@ use faults::FrameFault;
 use faults::FrameFromLine;
 use faults::LineFault;
 
-// The most bytes that a frame has.
+// The most bytes that a frame has, and that its line has.
 pub const FRAME_BYTES: usize = 16;
+
+pub const LINE_BYTES: usize = 33;
 
 // The digit of a number below 16.
 fn digit_of(n: u8) -> u8

@@ -1,15 +1,21 @@
 -- What serving a frame answers, and what the catalogue then holds.
 use Prim.Native.Nat.{ℕ}
+use mathlib.Core.Path.{_≡_}
+use mathlib.Core.List.{List}
 use Rattle.std.specs.declared.option.Option.{Option}
 use Rattle.std.specs.declared.option.Option.the-variants.{Some, None}
 use Rattle.std.specs.declared.result.Result.{Result}
 use Rattle.std.specs.declared.result.Result.the-variants.{Ok, Err}
 use Rattle.faults.specs.declared.EngineFault.{EngineFault}
+use Rattle.faults.specs.declared.FrameFault.{FrameFault}
 use Rattle.faults.specs.declared.FrameFault.the-variants.{Misplaced}
 use Rattle.faults.specs.declared.ProgramFault.{ProgramFault}
 use Rattle.faults.specs.declared.ProgramFault.the-variants.{Frame, Engine}
 use Rattle.network.specs.Kinds.{kind-of}
 use Rattle.catalogue.specs.Content.{Content, field-refusal, with-field, table-refusal, with-table, row-refusal, with-row, formula-refusal, with-formula}
+use Rattle.frames.specs.Received.{Received}
+use Rattle.frames.specs.declared.answers.Answer.{Answer}
+use Rattle.frames.specs.declared.answers.Answer.the-variants.{Done}
 use Rattle.frames.specs.declared.frames.Frame.{Frame as A-frame}
 use Rattle.frames.specs.declared.frames.Frame.the-variants as frame
 
@@ -54,3 +60,19 @@ verdict (Some why) = Err why
 abbrev pub outcome : Option ProgramFault → Content → Content → Content
 outcome None before done = done
 outcome (Some why) before done = before
+
+-- what is answered to a line that was received, or was not
+abbrev pub served : Content → Result A-frame FrameFault → Result Answer ProgramFault
+served c (Err fault) = Err (Frame fault)
+served c (Ok f) = elim (refusal c f) [ None ↦ Ok Done | Some why ↦ Err why ]
+
+abbrev pub after : Content → Result A-frame FrameFault → Content
+after c (Err fault) = c
+after c (Ok f) = outcome (refusal c f) c (entered c f)
+
+-- a line was served
+pub record Served (c : Content) (line : List ℕ) (r : Result Answer ProgramFault) (c′ : Content) : Type 0 where
+  pub asked : Result A-frame FrameFault
+  pub received : Received line asked
+  pub answers : r ≡ served c asked
+  pub holds : c′ ≡ after c asked

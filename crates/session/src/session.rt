@@ -1,16 +1,26 @@
 // Serving lines.
 
 ghost use mathlib.Core.Path.{_≡_};
+ghost use mathlib.Core.List.{List};
+ghost use Prim.Native.Nat.{ℕ};
+ghost use lib.ListN.{take};
 ghost use Rattle.catalogue.specs.View.{content};
-ghost use Rattle.session.specs.Serving.{refusal, entered, verdict, outcome};
+ghost use Rattle.faults.specs.Numbers.{program-number};
+ghost use Rattle.frames.specs.declared.answers.Answer.the-variants.{Refused};
+ghost use Rattle.session.specs.Serving.{refusal, entered, verdict, outcome, Served};
+ghost use Rattle.frames.specs.Lines.{line-reach};
+ghost use Rattle.session.specs.Steps.{state, told-as, Stepped, Exchanged};
 use catalogue::preparation::Preparation;
 use faults::FrameFault;
+use faults::FrameFromLine;
+use faults::LineFault;
 use faults::ProgramFault;
 use faults::ProgramFromEngine;
 use faults::ProgramFromFrame;
 use frames::answers::Answer;
 use frames::frames::Frame;
 use frames::frames::receive;
+use frames::lines::LINE_BYTES;
 use network::rules::Ends;
 use network::rules::FormulaRule;
 use network::rules::Kind;
@@ -51,4 +61,79 @@ fn enter(catalogue: &mut Preparation, frame: Frame) -> Result<(), ProgramFault>
         _ => return Err(FrameFault::Misplaced.into()),
     }
     Ok(())
+}
+
+impl Refusal {
+    // The answer that tells a refusal: its number and its line.
+    pub fn answer(self) -> Answer
+        ensures { λ a. ⌜ a ≡ Refused (program-number (self .fault)) (self .line) ⌝ }
+    {
+        Answer::Refused {
+            number: self.fault.number(),
+            line: self.line,
+        }
+    }
+}
+
+// The answer that a line gets, done or refused.
+fn told(result: Result<Answer, Refusal>) -> Answer
+    ensures { λ a. ⌜ a ≡ told-as result ⌝ }
+{
+    match result {
+        Ok(answer) => answer,
+        Err(refusal) => refusal.answer(),
+    }
+}
+
+impl<'a> Session<'a> {
+    // A session in which no line was answered.
+    pub fn new(catalogue: Preparation<'a>) -> Session<'a>
+        ensures { λ s. ⌜ state s ≡ record { lines = 0; content = content (catalogue .entry) } ⌝ }
+    {
+        Session {
+            catalogue,
+            lines: 0,
+        }
+    }
+
+    // Serves one line, or passes up why not.
+    fn serve(&mut self, line: &[u8]) -> Result<Answer, ProgramFault>
+        ensures served { λ r. ⌜ Served (content (now (self .entry) .catalogue)) (now (line .entry)) r (content (now (self .exit) .catalogue)) ⌝ }
+        ensures lines { λ _. ⌜ now (self .exit) .lines ≡ now (self .entry) .lines ⌝ }
+    {
+        let frame = receive(line)?;
+        enter(&mut self.catalogue, frame)?;
+        Ok(Answer::Done)
+    }
+
+    // Answers one line. None, and nothing changes, once 65,535 lines were answered.
+    pub fn step(&mut self, line: &[u8]) -> Option<Result<Answer, Refusal>>
+        ensures { λ o. ⌜ Stepped (state (now (self .entry))) (now (line .entry)) o (state (now (self .exit))) ⌝ }
+    {
+        if self.lines == u16::MAX {
+            return None;
+        }
+        self.lines += 1;
+        match self.serve(line) {
+            Ok(answer) => Some(Ok(answer)),
+            Err(fault) => Some(Err(Refusal {
+                line: self.lines,
+                fault,
+            })),
+        }
+    }
+
+    // Answers one line with the bytes of a line, and tells how many: none once 65,535 lines were answered. A buffer
+    // with less room than the longest line is refused, and nothing changes. Only the first 34 bytes of a line matter.
+    pub fn exchange(&mut self, line: &[u8], out: &mut [u8]) -> Result<usize, FrameFault>
+        ensures { λ r. ⌜ ((whole : List ℕ) → take line-reach whole ≡ take line-reach (now (line .entry)) → Exchanged (state (now (self .entry))) whole (now (out .entry)) r (now (out .exit)) (state (now (self .exit)))) ⌝ }
+    {
+        if out.len() < LINE_BYTES {
+            return Err(LineFault::ShortBuffer.into());
+        }
+        match self.step(line) {
+            Some(result) => told(result).write(out),
+            None => Ok(0),
+        }
+    }
 }
