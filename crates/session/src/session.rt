@@ -3,13 +3,14 @@
 ghost use mathlib.Core.Path.{_≡_};
 ghost use mathlib.Core.List.{List};
 ghost use Prim.Native.Nat.{ℕ};
+ghost use lib.Dec.{eqb};
 ghost use lib.ListN.{take};
 ghost use Rattle.catalogue.specs.View.{content};
 ghost use Rattle.faults.specs.Numbers.{program-number};
 ghost use Rattle.frames.specs.declared.answers.Answer.the-variants.{Refused};
 ghost use Rattle.session.specs.Serving.{refusal, entered, verdict, outcome, Served};
 ghost use Rattle.frames.specs.Lines.{line-reach};
-ghost use Rattle.session.specs.Steps.{state, told-as, Stepped, Exchanged};
+ghost use Rattle.session.specs.Steps.{state, last-line, told-as, Stepped, Exchanged};
 use catalogue::preparation::Preparation;
 use faults::FrameFault;
 use faults::FrameFromLine;
@@ -104,6 +105,13 @@ impl<'a> Session<'a> {
         let frame = receive(line)?;
         enter(&mut self.catalogue, frame)?;
         Ok(Answer::Done)
+    }
+
+    // Whether 65,535 lines were answered.
+    pub fn is_over(&self) -> bool
+        ensures { λ y. ⌜ y ≡ eqb (state (now (self .entry)) .lines) last-line ⌝ }
+    {
+        self.lines == u16::MAX
     }
 
     // Answers one line. None, and nothing changes, once 65,535 lines were answered.
