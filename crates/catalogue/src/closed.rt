@@ -9,11 +9,13 @@ use network::rules::Ends;
 use network::rules::FormulaRule;
 
 // A catalogue that can be read and takes no more entries.
+#[derive(Drop)]
 pub struct Closed<'a> {
     pub(crate) catalogue: Preparation<'a>,
 }
 
 // A closing that was refused: the catalogue, still in preparation, and why.
+#[derive(Drop)]
 pub struct Refused<'a> {
     pub catalogue: Preparation<'a>,
     pub fault: EngineFault,

@@ -9,6 +9,7 @@ ghost use lib.Dec.{ltb, leb};
 ghost use Rattle.catalogue.specs.Lent.{places as held, added, extended, replaced};
 
 // The first places of a lent slice are filled, the others are free.
+#[derive(Drop)]
 pub struct LentVec<'a, T> {
     places: &'a mut [T],
     filled: usize,

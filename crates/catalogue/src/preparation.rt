@@ -24,6 +24,7 @@ pub const RULES: usize = 128;
 
 // Fields and rules that are being entered, in lent memory: a set for each field, two ends and 32 rows for each
 // table rule, a record for each formula rule.
+#[derive(Drop)]
 pub struct Preparation<'a> {
     pub(crate) sets: LentVec<'a, OptionSet>,
     pub(crate) ends: LentVec<'a, Ends>,

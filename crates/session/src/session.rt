@@ -27,6 +27,7 @@ use network::rules::FormulaRule;
 use network::rules::Kind;
 
 // A catalogue in preparation, and how many lines were answered.
+#[derive(Drop)]
 pub struct Session<'a> {
     catalogue: Preparation<'a>,
     lines: u16,

@@ -18,6 +18,7 @@ use frames::lines::LINE_BYTES;
 
 // A session over a stream: a line is everything up to a line feed, and bytes behind the last one are a last line that
 // is not ended. A line of any length takes no more memory than a short one.
+#[derive(Drop)]
 pub struct Stream<'a> {
     session: Session<'a>,
     line: PendingLine,
