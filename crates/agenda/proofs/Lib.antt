@@ -1,1 +1,8 @@
 pub mod Takes
+pub mod Waits
+mod Masks
+mod Risings
+mod NumberSets
+mod Sequences
+mod Rings
+mod Places

@@ -1,2 +1,6 @@
 pub mod Waiting
+pub mod Sequence
+pub mod Numbered
+pub mod Ring
+pub mod Lined
 pub mod Jobs

@@ -21,9 +21,9 @@ pub trait Agenda {
 
     // Takes one of the numbers that wait, none if nothing waits. Which one is the agenda's own choice.
     fn take(&mut self) -> Option<u16>
-        ensures { λ o. ⌜ Taken (waiting (now (self .entry))) o (waiting (now (self .exit))) ⌝ };
+        ensures taken { λ o. ⌜ Taken (waiting (now (self .entry))) o (waiting (now (self .exit))) ⌝ };
 
     // Lets nothing wait any more.
     fn clear(&mut self)
-        ensures { λ _. ⌜ Nothing (waiting (now (self .exit))) ⌝ };
+        ensures nothing { λ _. ⌜ Nothing (waiting (now (self .exit))) ⌝ };
 }

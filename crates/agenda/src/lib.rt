@@ -4,4 +4,6 @@
 // Kinds of jobs:          job::Job, job::Arc, job::Probe
 // Put and take any job:   job::put_job, job::take_job
 pub mod agenda;
+pub mod first;
 pub mod job;
+mod numbers;
