@@ -6,3 +6,5 @@ mod NumberSets
 mod Sequences
 mod Rings
 mod Places
+mod Urgencies
+mod Buckets

@@ -6,4 +6,5 @@
 pub mod agenda;
 pub mod first;
 pub mod job;
+pub mod lowest;
 mod numbers;
