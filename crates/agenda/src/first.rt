@@ -12,6 +12,8 @@ use crate::numbers::NumberSet;
 
 mod line;
 
+pub use line::FirstComeAgenda;
+
 // First come, first served. The numbers that wait stand in a ring of places, from the first on; the marks tell which
 // they are, so that a number put again is seen at once.
 #[derive(Drop)]

@@ -14,6 +14,8 @@ use crate::numbers::NumberSet;
 
 mod order;
 
+pub use order::LowestUrgencyAgenda;
+
 // How many urgencies there are.
 const URGENCIES: usize = 256;
 
