@@ -1,21 +1,21 @@
 -- The sets of an agenda by urgency.
-use Prim.Native.Nat.{ℕ, zero, suc, _<_, _≤_}
-use mathlib.Core.Bool.{Bool, true, false, _&&_, _||_, not, cond}
+use Prim.Native.Nat.{ℕ, zero, suc, _<_}
+use mathlib.Core.Bool.{true, false, _&&_, _||_, not, cond}
 use mathlib.Core.Path.{_≡_, refl, sym, ap, subst, _∙_}
-use mathlib.Core.Logic.{_⊎_, inl, inr}
-use mathlib.Core.List.{List, [], _∷_, _++_}
+use mathlib.Core.Logic.{inl, inr}
+use mathlib.Core.List.{List, [], _∷_}
 use native.Mathlib.Omega.{arith}
-use lib.Dec.{eqb, ltb}
+use lib.Dec.{eqb}
 use lib.ListN.{length, getD, set, replicate}
 use Rattle.std.proofs.shelf.Tests.{cases-eq, eq-eqb, ne-eqb, lt-ltb, both-ways}
 use Rattle.std.proofs.shelf.Lists.{getD-set-same, getD-set-other, getD-replicate}
 use Rattle.std.specs.Options.{isSome}
 use Rattle.std.specs.declared.option.Option.{Option}
 use Rattle.std.specs.declared.option.Option.the-variants.{Some, None}
-use Rattle.agenda.specs.Waiting.{number-limit, Waiting, Nothing, Same, with-one, without}
+use Rattle.agenda.specs.Waiting.{number-limit, Nothing, Same, with-one, without}
 use Rattle.agenda.specs.Sequence.{first-of, rising}
 use Rattle.agenda.specs.Numbered.{numbers, no-numbers}
-use Rattle.agenda.specs.Urgent.{Urgencies, listed, any-urgency, is-at, urgent, urgency-limit, in-order, Foremost, with-urgency}
+use Rattle.agenda.specs.Urgent.{listed, any-urgency, is-at, urgent, urgency-limit, in-order, Foremost, with-urgency}
 use Rattle.agenda.specs.declared.numbers.NumberSet.{NumberSet}
 use Rattle.agenda.specs.declared.lowest.LowestUrgency.{LowestUrgency}
 use Rattle.agenda.proofs.Risings.{rising-none, rising-same, rising-found, rising-empty, rising-some}

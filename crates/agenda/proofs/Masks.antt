@@ -1,5 +1,5 @@
 -- Bits of words: masks, and the lowest bit that is set.
-use Prim.Native.Nat.{ℕ, zero, suc, _+_, _*_, _-_, _/_, _%_, _^_, _<_, _≤_, min, max}
+use Prim.Native.Nat.{ℕ, zero, suc, _*_, _-_, _/_, _%_, _^_, _<_}
 use mathlib.Core.Bool.{Bool, true, false, _&&_, _||_, not}
 use mathlib.Core.Path.{_≡_, refl, sym, ap, subst, _∙_}
 use mathlib.Core.Logic.{_⊎_, inl, inr, ⊎-elim}
@@ -9,7 +9,7 @@ use native.Mathlib.Numerals.{one-add}
 use lib.Dec.{eqb, eqb·zero-suc, eqb·suc-zero, eqb·suc-suc}
 use lib.Bits.{bitAnd, bitOr, and-step, or-step}
 use lib.Count.{trailingZeros, under}
-use Rattle.std.proofs.shelf.Bits.{shr-shr, pow-pos, pow-below}
+use Rattle.std.proofs.shelf.Bits.{shr-shr}
 use Rattle.std.proofs.shelf.Tests.{eq-eqb, ne-eqb, cases-eq}
 use Rattle.network.specs.Network.{has}
 

@@ -1,16 +1,15 @@
 -- The numbers of a set, rising, and the first of them.
-use Prim.Native.Nat.{ℕ, zero, suc, _+_, _<_, _≤_}
-use mathlib.Core.Bool.{Bool, true, false, cond}
+use Prim.Native.Nat.{ℕ, zero, suc, _<_}
+use mathlib.Core.Bool.{true, false, not, cond}
 use mathlib.Core.Path.{_≡_, refl, sym, ap, subst, _∙_}
 use mathlib.Core.Logic.{_⊎_, inl, inr}
 use mathlib.Core.List.{List, [], _∷_, _++_}
 use native.Mathlib.Omega.{arith}
-use Rattle.std.proofs.shelf.Tests.{cases-eq, cases-bool, both-ways}
-use Rattle.std.proofs.shelf.Lists.{append-nil}
+use lib.Dec.{eqb}
+use Rattle.std.proofs.shelf.Tests.{cases-eq, cases-bool, both-ways, eq-eqb, ne-eqb, and-right}
 use Rattle.std.specs.Options.{isSome}
-use Rattle.std.specs.declared.option.Option.{Option}
 use Rattle.std.specs.declared.option.Option.the-variants.{Some, None}
-use Rattle.agenda.specs.Waiting.{Waiting}
+use Rattle.agenda.specs.Waiting.{Waiting, Same, without}
 use Rattle.agenda.specs.Sequence.{first-of, rising}
 
 pub first-stays : (xs ys : List ℕ) (n : ℕ) → first-of xs ≡ Some n → first-of (xs ++ ys) ≡ Some n
@@ -78,3 +77,18 @@ module _ (w : Waiting) (m : ℕ) where
         | inl none ↦ absurd (both-ways (w n) (none n lt) here)
         | inr (j, (on, (below, none))) ↦ ap isSome (rising-first w j m below on none)
       ]
+
+-- the first number taken out of a set
+pub rising-rest : (w w′ : Waiting) (n m : ℕ) → n < m → w n ≡ true → ((k : ℕ) → k < n → w k ≡ false) → Same (without w n) w′ → rising w m ≡ n ∷ rising w′ m
+unfolding rising
+rising-rest w w′ n zero lt on none out = absurd (omega arith)
+rising-rest w w′ n (suc m) lt on none out =
+    elim (cases-eq n m) [
+      | inl e ↦
+          let none′ : (k : ℕ) → k < n → w′ k ≡ false = λ k h. out k ∙ rw (none k h) (and-right (not (eqb k n)) false refl) in
+          let off : w′ n ≡ false = out n ∙ rw (eq-eqb n n refl) in
+          subst (λ j. rising w j ++ cond (w j) (j ∷ []) [] ≡ n ∷ (rising w′ j ++ cond (w′ j) (j ∷ []) [])) e (rw (rising-none w n none, rising-none w′ n none′, on, off))
+      | inr ne ↦
+          let other : w′ m ≡ w m = out m ∙ rw (ne-eqb m n (λ h. ne (sym h))) in
+          rw (rising-rest w w′ n m (omega arith) on none out, other)
+    ]

@@ -1,15 +1,14 @@
 -- Sequences of numbers: which are in them, once each.
-use Prim.Native.Nat.{ℕ, zero, suc, _+_, _<_, _≤_}
-use mathlib.Core.Bool.{Bool, true, false, _&&_, _||_, not, cond}
+use Prim.Native.Nat.{ℕ, zero, suc, _<_, _≤_}
+use mathlib.Core.Bool.{Bool, true, false, _||_, not, cond}
 use mathlib.Core.Path.{_≡_, refl, sym, ap, subst, _∙_}
-use mathlib.Core.Logic.{_⊎_, inl, inr}
+use mathlib.Core.Logic.{inl, inr}
 use mathlib.Core.List.{List, [], _∷_, _++_}
 use native.Mathlib.Omega.{arith}
 use lib.Dec.{eqb, ltb}
 use lib.ListN.{length, drop}
 use Rattle.std.proofs.shelf.Tests.{cases-eq, cases-bool, eq-eqb, ne-eqb, eqb-false, lt-ltb, le-ltb, and-parts, and-right, or-parts, or-left, or-right, not-true, not-from-true}
-use Rattle.std.specs.declared.option.Option.the-variants.{Some, None}
-use Rattle.agenda.specs.Waiting.{number-limit, Waiting, Same, with-one, without, put, Taken, waits}
+use Rattle.agenda.specs.Waiting.{number-limit, Same, with-one, put, Taken, waits}
 use Rattle.agenda.specs.Sequence.{first-of, among}
 use Rattle.agenda.specs.Ring.{apart}
 use Rattle.agenda.specs.Lined.{lined-up}

@@ -1,19 +1,20 @@
 -- Numbers by their urgency.
-use Prim.Native.Nat.{ℕ, zero, suc, _<_, _≤_}
-use mathlib.Core.Bool.{Bool, true, false, _&&_, _||_, not, cond}
+use Prim.Native.Nat.{ℕ, zero, suc, _<_}
+use mathlib.Core.Bool.{true, false, not, cond}
 use mathlib.Core.Path.{_≡_, refl, sym, ap, subst, _∙_}
 use mathlib.Core.Logic.{_⊎_, inl, inr}
 use mathlib.Core.List.{List, [], _∷_, _++_}
 use native.Mathlib.Omega.{arith}
-use lib.Dec.{eqb, ltb}
+use lib.Dec.{eqb}
+use lib.ListN.{drop}
 use Rattle.std.proofs.shelf.Tests.{cases-eq, eq-eqb, ne-eqb, eqb-true, both-ways}
 use Rattle.std.specs.Options.{isSome}
 use Rattle.std.specs.declared.option.Option.{Option}
 use Rattle.std.specs.declared.option.Option.the-variants.{Some, None}
-use Rattle.agenda.specs.Waiting.{number-limit, Waiting, Nothing, Same, with-one, without, put, Taken}
+use Rattle.agenda.specs.Waiting.{number-limit, Same, with-one, without}
 use Rattle.agenda.specs.Sequence.{first-of, rising}
-use Rattle.agenda.specs.Urgent.{Urgencies, any-urgency, is-at, urgent, by-urgency, with-urgency, dropped}
-use Rattle.agenda.proofs.Risings.{first-stays, rising-none, rising-empty, rising-some}
+use Rattle.agenda.specs.Urgent.{Urgencies, any-urgency, is-at, urgent, by-urgency, in-order, urgency-limit, dropped}
+use Rattle.agenda.proofs.Risings.{first-stays, rising-same, rising-found, rising-rest}
 
 pub is-at-true : (o : Option ℕ) (v : ℕ) → is-at o v ≡ true → o ≡ Some v
 is-at-true None v e = absurd (both-ways false refl e)
@@ -52,13 +53,6 @@ module _ (u u′ : Urgencies) (n : ℕ) (o : Option ℕ) (is : (k : ℕ) → u�
       ]
 
   -- what waits then
-  pub waits-put : isSome o ≡ true → Same (with-one (any-urgency u) n) (any-urgency u′)
-  waits-put some k =
-      elim (cases-eq k n) [
-        | inl e ↦ ap isSome (at-n k e) ∙ some ∙ rw (eq-eqb k n e)
-        | inr ne ↦ ap isSome (at-other k ne) ∙ rw (ne-eqb k n ne)
-      ]
-
   pub waits-dropped : o ≡ None → Same (without (any-urgency u) n) (any-urgency u′)
   waits-dropped none k =
       elim (cases-eq k n) [
@@ -93,3 +87,62 @@ dropped-nothing u n never k =
       | inl e ↦ rw (eq-eqb k n e) (ap u e ∙ none-left (u n) never)
       | inr ne ↦ rw (ne-eqb k n ne)
     ]
+
+-- a sequence of two parts begins with the first part, unless that is empty
+first-part : (xs ys : List ℕ) (n : ℕ) → first-of (xs ++ ys) ≡ Some n → (first-of xs ≡ Some n) ⊎ ((xs ≡ []) × (first-of ys ≡ Some n))
+first-part [] ys n e = inr (refl, e)
+first-part (x ∷ xs) ys n e = inl e
+
+empty-parts : (xs ys : List ℕ) → xs ++ ys ≡ [] → (xs ≡ []) × (ys ≡ [])
+empty-parts [] ys e = (refl, e)
+empty-parts (x ∷ xs) ys e = absurd (let z : _≡_ {A = ℕ} 0 1 = cc in omega arith)
+
+order-empty : (u : Urgencies) (m : ℕ) → by-urgency u m ≡ [] → (x : ℕ) → x < m → rising (urgent u x) number-limit ≡ []
+unfolding by-urgency
+order-empty u zero e x lt = absurd (omega arith)
+order-empty u (suc m) e x lt =
+    let parts = empty-parts (by-urgency u m) (rising (urgent u m) number-limit) e in
+    elim (cases-eq x m) [
+      | inl same ↦ subst (λ i. rising (urgent u i) number-limit ≡ []) (sym same) (parts .1)
+      | inr ne ↦ order-empty u m (parts .0) x (omega arith)
+    ]
+
+-- the first of the sequence is the first number of the lowest urgency that has one
+Lowest : Urgencies → ℕ → ℕ → ℕ → Type 0
+Lowest u m n v = (v < m) × (((x : ℕ) → x < v → rising (urgent u x) number-limit ≡ []) × (first-of (rising (urgent u v) number-limit) ≡ Some n))
+
+order-found : (u : Urgencies) (m n : ℕ) → first-of (by-urgency u m) ≡ Some n → (v : ℕ) × Lowest u m n v
+unfolding by-urgency Lowest
+order-found u zero n e = absurd (let z : _≡_ {A = ℕ} 0 1 = cc in omega arith)
+order-found u (suc m) n e =
+    elim (first-part (by-urgency u m) (rising (urgent u m) number-limit) n e) [
+      | inl first ↦ let rest = order-found u m n first in (rest .0, (omega (arith, rest .1 .0), rest .1 .1))
+      | inr (none, first) ↦ (m, (omega arith, (order-empty u m none, first)))
+    ]
+
+-- without its first number, the sequence goes on
+module _ (u u′ : Urgencies) (n v : ℕ) (is : (k : ℕ) → u′ k ≡ dropped u n k) (on : u n ≡ Some v) where
+  elsewhere : (x : ℕ) → (x ≡ v → ⊥) → rising (urgent u′ x) number-limit ≡ rising (urgent u x) number-limit
+  elsewhere x ne =
+      rising-same (urgent u x) (urgent u′ x) number-limit
+      (others-keep u u′ n None is x refl (ap (λ p. is-at p x) on ∙ ne-eqb v x (λ e. ne (sym e))))
+
+  goes-on : (m : ℕ) → Lowest u m n v → by-urgency u m ≡ n ∷ by-urgency u′ m
+  unfolding by-urgency Lowest
+  goes-on zero low = absurd (omega (arith, low .0))
+  goes-on (suc m) (lt, (none, first)) =
+      elim (cases-eq v m) [
+        | inl e ↦
+            let there = rising-found (urgent u v) number-limit n first in
+            let none′ : (x : ℕ) → x < v → rising (urgent u′ x) number-limit ≡ [] = λ x h. elsewhere x (λ s. omega arith) ∙ none x h in
+            subst (λ j. by-urgency u j ++ rising (urgent u j) number-limit ≡ n ∷ (by-urgency u′ j ++ rising (urgent u′ j) number-limit)) e
+            (rw (order-none u v none, order-none u′ v none′, rising-rest (urgent u v) (urgent u′ v) n number-limit (there .1 .0) (there .0) (there .1 .1) (old-lacks u u′ n None is v refl)))
+        | inr ne ↦ rw (goes-on m (omega arith, (none, first)), elsewhere m (λ e. ne (sym e)))
+      ]
+
+pub order-rest : (u u′ : Urgencies) (n : ℕ) → ((k : ℕ) → u′ k ≡ dropped u n k) → first-of (in-order u) ≡ Some n → in-order u′ ≡ drop 1 (in-order u)
+unfolding Lowest
+order-rest u u′ n is first =
+    let low = order-found u urgency-limit n first in
+    let there = rising-found (urgent u (low .0)) number-limit n (low .1 .1 .1) in
+    sym (ap (drop 1) (goes-on u u′ n (low .0) is (is-at-true (u n) (low .0) (there .0)) urgency-limit (low .1)))

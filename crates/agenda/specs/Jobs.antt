@@ -9,7 +9,7 @@ use Rattle.std.specs.declared.option.Option.the-variants.{Some, None}
 use Rattle.network.specs.Network.{rule-limit, field-limit, option-limit}
 use Rattle.network.specs.declared.rules.Side.{Side}
 use Rattle.network.specs.declared.rules.Side.the-variants.{Left, Right}
-use Rattle.agenda.specs.Waiting.{Waiting, Nothing, Same, with-one, Taken}
+use Rattle.agenda.specs.Waiting.{Waiting, with-one, Taken}
 use Rattle.agenda.specs.declared.job.Arc.{Arc}
 use Rattle.agenda.specs.declared.job.Probe.{Probe}
 

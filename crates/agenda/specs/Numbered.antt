@@ -1,5 +1,5 @@
 -- Sets of numbers by the bits of 64-bit words.
-use Prim.Native.Nat.{ℕ, _/_, _%_}
+use Prim.Native.Nat.{_/_, _%_}
 use mathlib.Core.List.{[]}
 use lib.ListN.{getD}
 use Rattle.network.specs.Network.{has}

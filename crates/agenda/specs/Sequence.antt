@@ -1,11 +1,11 @@
 -- The sequence in which numbers wait: the first is the next to be taken.
 use Prim.Native.Nat.{ℕ, zero, suc}
-use mathlib.Core.Bool.{Bool, true, false, _&&_, _||_, not, cond}
+use mathlib.Core.Bool.{false, _||_, cond}
 use mathlib.Core.List.{List, [], _∷_, _++_}
-use lib.Dec.{eqb, ltb}
+use lib.Dec.{eqb}
 use Rattle.std.specs.declared.option.Option.{Option}
 use Rattle.std.specs.declared.option.Option.the-variants.{Some, None}
-use Rattle.agenda.specs.Waiting.{number-limit, Waiting}
+use Rattle.agenda.specs.Waiting.{Waiting}
 
 abbrev pub first-of : List ℕ → Option ℕ
 first-of [] = None

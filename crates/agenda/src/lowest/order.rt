@@ -3,6 +3,7 @@
 ghost use mathlib.Core.Path.{_≡_};
 ghost use Prim.Native.Nat.{ℕ, _<_};
 ghost use lib.Dec.{ltb};
+ghost use lib.ListN.{drop};
 ghost use Rattle.std.specs.declared.option.Option.the-variants.{Some, None};
 ghost use Rattle.agenda.specs.Waiting.{number-limit, Nothing, Same, put as waiting-put, Taken};
 ghost use Rattle.agenda.specs.Sequence.{first-of};
@@ -83,7 +84,7 @@ pub impl Agenda for LowestUrgency as LowestUrgencyAgenda {
     fn put(&mut self, number: u16, urgency: u8) -> bool
         ensures answer { λ y. ⌜ y ≡ ltb number number-limit ⌝ }
         ensures after { λ _. ⌜ Same (waiting-put (any-urgency (urgencies-of (now (self .entry)))) number) (any-urgency (urgencies-of (now (self .exit)))) ⌝ }
-        ensures order { λ _. ⌜ ((k : ℕ) → urgencies-of (now (self .exit)) k ≡ with-urgency (urgencies-of (now (self .entry))) number urgency k) ⌝ }
+        ensures urgencies { λ _. ⌜ ((k : ℕ) → urgencies-of (now (self .exit)) k ≡ with-urgency (urgencies-of (now (self .entry))) number urgency k) ⌝ }
     {
         if number as usize >= NUMBERS {
             return false;
@@ -97,7 +98,8 @@ pub impl Agenda for LowestUrgency as LowestUrgencyAgenda {
     fn take(&mut self) -> Option<u16>
         ensures taken { λ o. ⌜ Taken (any-urgency (urgencies-of (now (self .entry)))) o (any-urgency (urgencies-of (now (self .exit)))) ⌝ }
         ensures answer { λ o. ⌜ o ≡ first-of (in-order (urgencies-of (now (self .entry)))) ⌝ }
-        ensures order { λ o. ⌜ ((k : ℕ) → urgencies-of (now (self .exit)) k ≡ dropped-if (urgencies-of (now (self .entry))) o k) ⌝ }
+        ensures order { λ _. ⌜ in-order (urgencies-of (now (self .exit))) ≡ drop 1 (in-order (urgencies-of (now (self .entry)))) ⌝ }
+        ensures urgencies { λ o. ⌜ ((k : ℕ) → urgencies-of (now (self .exit)) k ≡ dropped-if (urgencies-of (now (self .entry))) o k) ⌝ }
     {
         let number = self.foremost()?;
         self.withdraw(number);
@@ -106,7 +108,7 @@ pub impl Agenda for LowestUrgency as LowestUrgencyAgenda {
 
     fn clear(&mut self)
         ensures nothing { λ _. ⌜ Nothing (any-urgency (urgencies-of (now (self .exit)))) ⌝ }
-        ensures order { λ _. ⌜ ((k : ℕ) → urgencies-of (now (self .exit)) k ≡ None) ⌝ }
+        ensures urgencies { λ _. ⌜ ((k : ℕ) → urgencies-of (now (self .exit)) k ≡ None) ⌝ }
     {
         *self = LowestUrgency::new();
     }

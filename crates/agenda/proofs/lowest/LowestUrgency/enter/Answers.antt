@@ -1,5 +1,4 @@
 use native.Mathlib.Omega.{arith}
-use mathlib.Core.Path.{_∙_}
 use Rattle.agenda.specs.Ranked.{urgency}
 use Rattle.agenda.proofs.Buckets.{enter-within, enter-filed, enter-shown, entered}
 use Rattle.agenda.proofs.lowest.LowestUrgency.enter.Needs as need

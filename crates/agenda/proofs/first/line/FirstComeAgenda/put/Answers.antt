@@ -1,9 +1,8 @@
 use native.Mathlib.Omega.{arith}
-use mathlib.Core.Path.{_≡_, sym, ap, _∙_}
-use lib.ListN.{length}
+use mathlib.Core.Path.{sym, ap, _∙_}
 use Rattle.std.proofs.shelf.Tests.{lt-ltb}
 use Rattle.agenda.specs.Sequence.{among}
-use Rattle.agenda.specs.Lined.{line, lined-up}
+use Rattle.agenda.specs.Lined.{line}
 use Rattle.agenda.proofs.Sequences.{lined-again, lined-waits}
 use Rattle.agenda.proofs.Places.{marked-line, room, put-marked, put-once, put-lined}
 use Rattle.agenda.proofs.first.line.FirstComeAgenda.put.Needs as need
