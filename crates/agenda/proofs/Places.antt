@@ -39,21 +39,21 @@ room f n lt off size =
     let free = waits-room (among (line f)) n number-limit lt (sym (marked-line f n) ∙ off) in
     omega (arith, length-around (f .places) (f .first) (f .count))
 
--- a new number v in the place behind the last
-module _ (f : FirstCome) (n v : ℕ) (is : v ≡ n) (lt : n < number-limit) (off : numbers (f .marks) n ≡ false)
+-- a new number in the place behind the last
+module _ (f : FirstCome) (n : ℕ) (lt : n < number-limit) (off : numbers (f .marks) n ≡ false)
     (size : length (f .places) ≡ 512) (words : length (f .marks .words) ≡ 8) where
-  longer : around (set (f .places) ((f .first + f .count) % 512) v) (f .first) (f .count + 1) ≡ line f ++ n ∷ []
+  longer : around (set (f .places) ((f .first + f .count) % 512) n) (f .first) (f .count + 1) ≡ line f ++ n ∷ []
   unfolding line
-  longer = around-put (f .places) (f .first) (f .count) v size (room f n lt off words) ∙ ap (λ x. line f ++ x ∷ []) is
+  longer = around-put (f .places) (f .first) (f .count) n size (room f n lt off words)
 
   pub put-marked : (marks′ : NumberSet) → Same (with-one (numbers (f .marks)) n) (numbers marks′) →
-      (k : ℕ) → numbers marks′ k ≡ among (around (set (f .places) ((f .first + f .count) % 512) v) (f .first) (f .count + 1)) k
+      (k : ℕ) → numbers marks′ k ≡ among (around (set (f .places) ((f .first + f .count) % 512) n) (f .first) (f .count + 1)) k
   put-marked marks′ after k = after k ∙ rw (marked-line f k, longer) (sym (among-push (line f) n k))
 
-  pub put-once : apart (around (set (f .places) ((f .first + f .count) % 512) v) (f .first) (f .count + 1)) ≡ true
+  pub put-once : apart (around (set (f .places) ((f .first + f .count) % 512) n) (f .first) (f .count + 1)) ≡ true
   put-once = ap apart longer ∙ apart-push (line f) n (once-line f) (sym (marked-line f n) ∙ off)
 
-  pub put-lined : around (set (f .places) ((f .first + f .count) % 512) v) (f .first) (f .count + 1) ≡ lined-up (line f) n
+  pub put-lined : around (set (f .places) ((f .first + f .count) % 512) n) (f .first) (f .count + 1) ≡ lined-up (line f) n
   put-lined = longer ∙ sym (lined-new (line f) n lt (sym (marked-line f n) ∙ off))
 
 pub no-line : (f : FirstCome) → f .count ≡ 0 → line f ≡ []

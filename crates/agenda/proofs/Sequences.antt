@@ -8,7 +8,7 @@ use native.Mathlib.Omega.{arith}
 use lib.Dec.{eqb, ltb}
 use lib.ListN.{length, drop}
 use Rattle.std.proofs.shelf.Tests.{cases-eq, cases-bool, eq-eqb, ne-eqb, eqb-false, lt-ltb, le-ltb, and-parts, and-right, or-parts, or-left, or-right, not-true, not-from-true}
-use Rattle.agenda.specs.Waiting.{number-limit, Same, with-one, put, Taken, waits}
+use Rattle.agenda.specs.Waiting.{number-limit, Same, with-one, put-number, Taken, waits}
 use Rattle.agenda.specs.Sequence.{first-of, among}
 use Rattle.agenda.specs.Ring.{apart}
 use Rattle.agenda.specs.Lined.{lined-up}
@@ -56,7 +56,7 @@ module _ (ns : List ℕ) (n : ℕ) where
   lined-new lt off = rw (lt-ltb n 512 lt, off)
 
   -- what waits once a number was put
-  pub lined-waits : Same (put (among ns) n) (among (lined-up ns n))
+  pub lined-waits : Same (put-number (among ns) n) (among (lined-up ns n))
   lined-waits k =
       elim (cases-bool (ltb n 512)) [
         | inl e ↦ elim (cases-bool (among ns n)) [

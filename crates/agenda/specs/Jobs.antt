@@ -47,8 +47,8 @@ probe-fits p = ltb (p .field) field-limit && ltb (p .option) option-limit
 abbrev pub put-job : Waiting → Bool → ℕ → Waiting
 put-job w fits n k = cond fits (with-one w n k) (w k)
 
--- a job was taken, as any number is: it fits its kind.
--- None came either if nothing waited, or if what was taken stands for no job of the kind; so where only numbers below the limit waited, nothing waits
+-- a job was taken as its number is, and fits its kind; none came if nothing waited, or if the number that was taken
+-- stands for no job of the kind. So where only numbers below the limit waited, none says that nothing waits
 abbrev pub Job-taken : {J : Type 0} → ℕ → (J → Bool) → (J → ℕ) → Waiting → Option J → Waiting → Type 0
 Job-taken limit fits number w (Some j) w′ = (fits j ≡ true) × Taken w (Some (number j)) w′
 Job-taken limit fits number w None w′ = Taken w None w′ ⊎ ((n : ℕ) × ((limit ≤ n) × Taken w (Some n) w′))

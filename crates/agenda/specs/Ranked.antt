@@ -3,5 +3,5 @@ use Rattle.agenda.specs.Urgent.{Urgencies, listed}
 use Rattle.agenda.specs.declared.lowest.LowestUrgency.{LowestUrgency}
 
 -- the urgency with which each number waits
-unfoldable pub urgency : LowestUrgency → Urgencies
-urgency l = listed (l .urgencies)
+unfoldable pub urgencies-of : LowestUrgency → Urgencies
+urgencies-of l = listed (l .urgencies)

@@ -1,4 +1,4 @@
--- The sequence in which numbers wait: the first is the next to be taken.
+-- Sequences of numbers that wait: the first is the next to be taken.
 use Prim.Native.Nat.{ℕ, zero, suc}
 use mathlib.Core.Bool.{false, _||_, cond}
 use mathlib.Core.List.{List, [], _∷_, _++_}

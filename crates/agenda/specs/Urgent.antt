@@ -15,6 +15,7 @@ use Rattle.agenda.specs.Sequence.{rising}
 abbrev pub Urgencies : Type 0
 Urgencies = ℕ → Option ℕ
 
+-- urgencies by a list, number 0 first
 abbrev pub listed : List (Option ℕ) → Urgencies
 listed us k = getD us k None
 
@@ -26,6 +27,7 @@ urgency-limit = 256
 abbrev pub any-urgency : Urgencies → Waiting
 any-urgency u k = isSome (u k)
 
+-- whether it is urgency v
 abbrev pub is-at : Option ℕ → ℕ → Bool
 is-at None v = false
 is-at (Some x) v = eqb x v
@@ -34,11 +36,12 @@ is-at (Some x) v = eqb x v
 abbrev pub urgent : Urgencies → ℕ → Waiting
 urgent u v k = is-at (u k) v
 
--- the waiting sequence of the urgencies below a limit: by rising urgency, ties by rising number
+-- the numbers with an urgency below a limit, by rising urgency, ties by rising number
 unfoldable pub by-urgency : Urgencies → ℕ → List ℕ
 by-urgency u zero = []
 by-urgency u (suc v) = by-urgency u v ++ rising (urgent u v) number-limit
 
+-- the waiting sequence: the first is the next to be taken
 abbrev pub in-order : Urgencies → List ℕ
 in-order u = by-urgency u urgency-limit
 

@@ -10,7 +10,7 @@ use Rattle.std.specs.declared.option.Option.the-variants.{Some, None}
 abbrev pub number-limit : ℕ
 number-limit = 512
 
--- which numbers wait
+-- which numbers wait: those of the jobs that were put and not yet taken
 abbrev pub Waiting : Type 0
 Waiting = ℕ → Bool
 
@@ -27,8 +27,8 @@ abbrev pub without : Waiting → ℕ → Waiting
 without w n k = not (eqb k n) && w k
 
 -- what waits once n was put: n as well, unless there is no such number
-abbrev pub put : Waiting → ℕ → Waiting
-put w n k = cond (ltb n number-limit) (with-one w n k) (w k)
+abbrev pub put-number : Waiting → ℕ → Waiting
+put-number w n k = cond (ltb n number-limit) (with-one w n k) (w k)
 
 -- a number was taken: it waited and waits no longer, and none came exactly if nothing waited
 abbrev pub Taken : Waiting → Option ℕ → Waiting → Type 0

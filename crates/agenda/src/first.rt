@@ -14,8 +14,8 @@ mod line;
 
 pub use line::FirstComeAgenda;
 
-// First come, first served. The numbers that wait stand in a ring of places, from the first on; the marks tell which
-// they are, so that a number put again is seen at once.
+// First come, first served. The numbers that wait stand in a ring of places, from the first on, each once; the marks
+// tell which they are, so that a number put again is seen at once.
 #[derive(Drop)]
 pub struct FirstCome {
     places: [u64; NUMBERS],

@@ -18,8 +18,8 @@ const RULES: u8 = 128;
 
 const FIELDS: u8 = 16;
 
-// A kind of job. Every number below its limit stands for one job, whose number it is, and every job that fits the
-// kind has such a number.
+// A kind of job: of work that can wait on an agenda. Every number below the kind's limit stands for one job, whose
+// number it is, and every job that fits the kind has such a number.
 pub trait Job: Sized {
     const LIMIT: u16;
 
@@ -39,7 +39,7 @@ pub trait Job: Sized {
 
     law there: { (k : ℕ) → k < limit → (fits (job k) ≡ true) × (number (job k) ≡ k) };
 
-    // The kind's limit, where a clause is to speak of it.
+    // The constant above, for clauses, which cannot name it.
     fn limit_of() -> u16
         ensures { λ r. ⌜ r ≡ limit ⌝ };
 
@@ -78,7 +78,7 @@ pub impl Job for Arc as ArcJob {
         if self.rule >= RULES {
             return None;
         }
-        let first = u16::from(self.rule) * 2;
+        let first = self.rule as u16 * 2;
         match self.side {
             Side::Left => Some(first),
             Side::Right => Some(first + 1),
@@ -121,20 +121,20 @@ pub impl Job for Probe as ProbeJob {
         if self.field >= FIELDS || self.option >= OPTIONS {
             return None;
         }
-        Some(u16::from(self.field) * u16::from(OPTIONS) + u16::from(self.option))
+        Some(self.field as u16 * OPTIONS as u16 + self.option as u16)
     }
 
     fn of_number(n: u16) -> Option<Probe> {
         if n >= Self::LIMIT {
             return None;
         }
-        let field = (n / u16::from(OPTIONS)) as u8;
-        let option = (n % u16::from(OPTIONS)) as u8;
+        let field = (n / OPTIONS as u16) as u8;
+        let option = (n % OPTIONS as u16) as u8;
         Some(Probe { field, option })
     }
 }
 
-// Lets a job wait and answers yes, unless it does not fit its kind.
+// Lets a job wait and answers yes; one that does not fit its kind changes nothing, and the answer is no.
 pub fn put_job<J: Job, W: Agenda>(agenda: &mut W, job: J, urgency: u8) -> bool
     ensures answer { λ y. ⌜ y ≡ J·Job .fits job ⌝ }
     ensures after { λ _. ⌜ Same (put-job (W·Agenda .waiting (now (agenda .entry))) (J·Job .fits job) (J·Job .number job)) (W·Agenda .waiting (now (agenda .exit))) ⌝ }
@@ -145,7 +145,8 @@ pub fn put_job<J: Job, W: Agenda>(agenda: &mut W, job: J, urgency: u8) -> bool
     }
 }
 
-// Takes a job that waits. A number that stands for no job of the kind is taken off too, and the answer is none.
+// Takes a job that waits, none if nothing waits. A number that stands for no job of the kind is taken off the agenda
+// too, and the answer is none.
 pub fn take_job<J: Job, W: Agenda>(agenda: &mut W) -> Option<J>
     ensures { λ o. ⌜ Job-taken (J·Job .limit) (J·Job .fits) (J·Job .number) (W·Agenda .waiting (now (agenda .entry))) o (W·Agenda .waiting (now (agenda .exit))) ⌝ }
 {

@@ -19,8 +19,8 @@ pub use order::LowestUrgencyAgenda;
 // How many urgencies there are.
 const URGENCIES: usize = 256;
 
-// Lowest urgency first, ties to the lower number. For each urgency a set has the numbers that wait with it, and one
-// more set has the urgencies with which any number waits, so that neither step of a take goes through all numbers.
+// Lowest urgency first, ties to the lower number. For each urgency a bucket has the numbers that wait with it, and the
+// busy urgencies are those whose bucket is not empty: so a take looks at a few words and not at every number.
 #[derive(Drop)]
 pub struct LowestUrgency {
     urgencies: [Option<u8>; NUMBERS],

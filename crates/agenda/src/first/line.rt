@@ -4,7 +4,7 @@ ghost use mathlib.Core.Path.{_≡_};
 ghost use mathlib.Core.List.{[]};
 ghost use lib.Dec.{ltb};
 ghost use lib.ListN.{drop};
-ghost use Rattle.agenda.specs.Waiting.{number-limit, Nothing, Same, put as waiting-put, Taken};
+ghost use Rattle.agenda.specs.Waiting.{number-limit, Nothing, Same, put-number, Taken};
 ghost use Rattle.agenda.specs.Sequence.{first-of, among};
 ghost use Rattle.agenda.specs.Lined.{line, lined-up};
 use super::FirstCome;
@@ -32,16 +32,16 @@ pub impl Agenda for FirstCome as FirstComeAgenda {
     // The number waits behind all others; one that waits already keeps its place. The urgency does not matter.
     fn put(&mut self, number: u16, _urgency: u8) -> bool
         ensures answer { λ y. ⌜ y ≡ ltb number number-limit ⌝ }
-        ensures after { λ _. ⌜ Same (waiting-put (among (line (now (self .entry)))) number) (among (line (now (self .exit)))) ⌝ }
+        ensures after { λ _. ⌜ Same (put-number (among (line (now (self .entry)))) number) (among (line (now (self .exit)))) ⌝ }
         ensures order { λ _. ⌜ line (now (self .exit)) ≡ lined-up (line (now (self .entry))) number ⌝ }
     {
-        if usize::from(number) >= NUMBERS {
+        if number as usize >= NUMBERS {
             return false;
         }
         if self.marks.contains(number) {
             return true;
         }
-        self.places[(self.first + self.count) % NUMBERS] = u64::from(number);
+        self.places[(self.first + self.count) % NUMBERS] = number as u64;
         self.count += 1;
         self.marks.insert(number);
         true

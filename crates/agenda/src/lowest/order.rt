@@ -5,10 +5,10 @@ ghost use Prim.Native.Nat.{ℕ, _<_};
 ghost use lib.Dec.{ltb};
 ghost use lib.ListN.{drop};
 ghost use Rattle.std.specs.declared.option.Option.the-variants.{Some, None};
-ghost use Rattle.agenda.specs.Waiting.{number-limit, Nothing, Same, put as waiting-put, Taken};
+ghost use Rattle.agenda.specs.Waiting.{number-limit, Nothing, Same, put-number, Taken};
 ghost use Rattle.agenda.specs.Sequence.{first-of};
 ghost use Rattle.agenda.specs.Urgent.{any-urgency, in-order, Foremost, with-urgency, dropped, dropped-if};
-ghost use Rattle.agenda.specs.Ranked.{urgency as urgencies-of};
+ghost use Rattle.agenda.specs.Ranked.{urgencies-of};
 use super::LowestUrgency;
 use super::URGENCIES;
 use crate::agenda::Agenda;
@@ -27,29 +27,26 @@ impl LowestUrgency {
         }
     }
 
-    // Enters a number that does not wait into the set of its urgency.
+    // Enters a number that does not wait into the bucket of its urgency.
     fn enter(&mut self, number: u16, urgency: u8)
         requires within { ⌜ number < number-limit ⌝ }
         requires new { ⌜ urgencies-of (now self) number ≡ None ⌝ }
         ensures { λ _. ⌜ ((k : ℕ) → urgencies-of (now (self .exit)) k ≡ with-urgency (urgencies-of (now (self .entry))) number urgency k) ⌝ }
     {
         self.urgencies[number as usize] = Some(urgency);
-        let mut bucket = self.buckets[urgency as usize];
-        bucket.insert(number);
-        self.buckets[urgency as usize] = bucket;
+        self.buckets[urgency as usize].insert(number);
         self.busy.insert(urgency as u16);
     }
 
-    // Takes a number that waits out of the set of its urgency.
+    // Takes a number that waits out of the bucket of its urgency.
     fn leave(&mut self, number: u16, urgency: u8)
         requires within { ⌜ number < number-limit ⌝ }
         requires waits { ⌜ urgencies-of (now self) number ≡ Some urgency ⌝ }
         ensures { λ _. ⌜ ((k : ℕ) → urgencies-of (now (self .exit)) k ≡ dropped (urgencies-of (now (self .entry))) number k) ⌝ }
     {
         self.urgencies[number as usize] = None;
-        let mut bucket = self.buckets[urgency as usize];
+        let bucket = &mut self.buckets[urgency as usize];
         bucket.remove(number);
-        self.buckets[urgency as usize] = bucket;
         if bucket.lowest().is_none() {
             self.busy.remove(urgency as u16);
         }
@@ -61,8 +58,7 @@ impl LowestUrgency {
         ensures waits { λ o. ⌜ Foremost (urgencies-of (now (self .entry))) o ⌝ }
     {
         let urgency = self.busy.lowest()?;
-        let bucket = self.buckets[urgency as usize];
-        bucket.lowest()
+        self.buckets[urgency as usize].lowest()
     }
 
     // Lets a number wait no longer, if it waits.
@@ -83,7 +79,7 @@ pub impl Agenda for LowestUrgency as LowestUrgencyAgenda {
     // A number that waits already takes the new urgency.
     fn put(&mut self, number: u16, urgency: u8) -> bool
         ensures answer { λ y. ⌜ y ≡ ltb number number-limit ⌝ }
-        ensures after { λ _. ⌜ Same (waiting-put (any-urgency (urgencies-of (now (self .entry)))) number) (any-urgency (urgencies-of (now (self .exit)))) ⌝ }
+        ensures after { λ _. ⌜ Same (put-number (any-urgency (urgencies-of (now (self .entry)))) number) (any-urgency (urgencies-of (now (self .exit)))) ⌝ }
         ensures urgencies { λ _. ⌜ ((k : ℕ) → urgencies-of (now (self .exit)) k ≡ with-urgency (urgencies-of (now (self .entry))) number urgency k) ⌝ }
     {
         if number as usize >= NUMBERS {

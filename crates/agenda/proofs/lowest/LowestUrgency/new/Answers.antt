@@ -1,4 +1,4 @@
-use Rattle.agenda.specs.Ranked.{urgency}
+use Rattle.agenda.specs.Ranked.{urgencies-of}
 use Rattle.agenda.proofs.Buckets.{new-none, new-within, new-filed, new-shown}
 use Rattle.agenda.proofs.lowest.LowestUrgency.new.Needs as need
 
@@ -9,5 +9,5 @@ ghost-result c =
     (new-within b busy (c .new .ensures) (c .new-2 .ensures) 512, (new-filed b busy (c .new .ensures) (c .new-2 .ensures) 512, (new-shown b busy (c .new .ensures) (c .new-2 .ensures) 512, tt)))
 
 pub returns : need.returns
-unfolding urgency
+unfolding urgencies-of
 returns c = new-none (c .new .result) (c .new-2 .result) (c .new .ensures) (c .new-2 .ensures) 512

@@ -29,14 +29,14 @@ ghost-self c =
     let f = c .args .self .now in
     let n = c .args .number in
     let off = sym (c .if-contains .ensures tt) in
-    (f .within, (put-marked f n (c .from-2 .result) (c .from-2 .ensures) (omega arith) off (omega arith) (omega arith) (c .insert .last .self) (c .insert .ensures), (put-once f n (c .from-2 .result) (c .from-2 .ensures) (omega arith) off (omega arith) (omega arith), tt)))
+    (f .within, (put-marked f n (omega arith) off (omega arith) (omega arith) (c .insert .last .self) (c .insert .ensures), (put-once f n (omega arith) off (omega arith) (omega arith), tt)))
 
 pub returns : need.returns
 unfolding line
 returns c =
     let f = c .args .self .now in
     let n = c .args .number in
-    let order = put-lined f n (c .from-2 .result) (c .from-2 .ensures) (omega arith) (sym (c .if-contains .ensures tt)) (omega arith) (omega arith) in
+    let order = put-lined f n (omega arith) (sym (c .if-contains .ensures tt)) (omega arith) (omega arith) in
     record {
       answer = sym (lt-ltb n 512 (omega arith));
       after = λ k. ap (λ l. among l k) order ∙ lined-waits (line f) n k;

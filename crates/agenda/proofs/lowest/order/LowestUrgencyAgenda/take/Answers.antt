@@ -1,13 +1,13 @@
 use mathlib.Core.Path.{refl, sym}
 use Rattle.std.specs.declared.option.Option.the-variants.{None}
-use Rattle.agenda.specs.Ranked.{urgency}
+use Rattle.agenda.specs.Ranked.{urgencies-of}
 use Rattle.agenda.proofs.Urgencies.{waits-dropped, order-rest}
 use Rattle.agenda.proofs.lowest.order.LowestUrgencyAgenda.take.Needs as need
 
 pub returns : need.returns
 returns c =
-    let u = urgency (c .args .self .now) in
-    let u′ = urgency (c .withdraw .last .self) in
+    let u = urgencies-of (c .args .self .now) in
+    let u′ = urgencies-of (c .withdraw .last .self) in
     let n = c .in-Continue-number .number in
     let foremost = c .in-Continue-number .ensures tt in
     let out = c .withdraw .ensures in
