@@ -19,7 +19,7 @@ pub trait Agenda {
     // agenda may go by it or not.
     fn put(&mut self, number: u16, urgency: u8) -> bool
         ensures answer { λ y. ⌜ y ≡ ltb number number-limit ⌝ }
-        ensures after { λ _. ⌜ Same (put-number (waiting (now (self .entry))) number) (waiting (now (self .exit))) ⌝ };
+        ensures waiting { λ _. ⌜ Same (put-number (waiting (now (self .entry))) number) (waiting (now (self .exit))) ⌝ };
 
     // Takes one of the numbers that wait, none exactly if nothing waits. Which one is the agenda's own choice.
     fn take(&mut self) -> Option<u16>
@@ -27,5 +27,5 @@ pub trait Agenda {
 
     // Lets nothing wait any more.
     fn clear(&mut self)
-        ensures nothing { λ _. ⌜ Nothing (waiting (now (self .exit))) ⌝ };
+        ensures waiting { λ _. ⌜ Nothing (waiting (now (self .exit))) ⌝ };
 }

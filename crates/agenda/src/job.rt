@@ -137,7 +137,7 @@ pub impl Job for Probe as ProbeJob {
 // Lets a job wait and answers yes; one that does not fit its kind changes nothing, and the answer is no.
 pub fn put_job<J: Job, W: Agenda>(agenda: &mut W, job: J, urgency: u8) -> bool
     ensures answer { λ y. ⌜ y ≡ J·Job .fits job ⌝ }
-    ensures after { λ _. ⌜ Same (put-job (W·Agenda .waiting (now (agenda .entry))) (J·Job .fits job) (J·Job .number job)) (W·Agenda .waiting (now (agenda .exit))) ⌝ }
+    ensures waiting { λ _. ⌜ Same (put-job (W·Agenda .waiting (now (agenda .entry))) (J·Job .fits job) (J·Job .number job)) (W·Agenda .waiting (now (agenda .exit))) ⌝ }
 {
     match job.to_number() {
         Some(number) => agenda.put(number, urgency),
@@ -148,7 +148,7 @@ pub fn put_job<J: Job, W: Agenda>(agenda: &mut W, job: J, urgency: u8) -> bool
 // Takes a job that waits, none if nothing waits. A number that stands for no job of the kind is taken off the agenda
 // too, and the answer is none.
 pub fn take_job<J: Job, W: Agenda>(agenda: &mut W) -> Option<J>
-    ensures { λ o. ⌜ Job-taken (J·Job .limit) (J·Job .fits) (J·Job .number) (W·Agenda .waiting (now (agenda .entry))) o (W·Agenda .waiting (now (agenda .exit))) ⌝ }
+    ensures taken { λ o. ⌜ Job-taken (J·Job .limit) (J·Job .fits) (J·Job .number) (W·Agenda .waiting (now (agenda .entry))) o (W·Agenda .waiting (now (agenda .exit))) ⌝ }
 {
     match agenda.take() {
         Some(number) => J::of_number(number),

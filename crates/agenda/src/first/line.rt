@@ -32,7 +32,7 @@ pub impl Agenda for FirstCome as FirstComeAgenda {
     // The number waits behind all others; one that waits already keeps its place. The urgency does not matter.
     fn put(&mut self, number: u16, _urgency: u8) -> bool
         ensures answer { λ y. ⌜ y ≡ ltb number number-limit ⌝ }
-        ensures after { λ _. ⌜ Same (put-number (among (line (now (self .entry)))) number) (among (line (now (self .exit)))) ⌝ }
+        ensures waiting { λ _. ⌜ Same (put-number (among (line (now (self .entry)))) number) (among (line (now (self .exit)))) ⌝ }
         ensures order { λ _. ⌜ line (now (self .exit)) ≡ lined-up (line (now (self .entry))) number ⌝ }
     {
         if number as usize >= NUMBERS {
@@ -64,7 +64,7 @@ pub impl Agenda for FirstCome as FirstComeAgenda {
     }
 
     fn clear(&mut self)
-        ensures nothing { λ _. ⌜ Nothing (among (line (now (self .exit)))) ⌝ }
+        ensures waiting { λ _. ⌜ Nothing (among (line (now (self .exit)))) ⌝ }
         ensures order { λ _. ⌜ line (now (self .exit)) ≡ [] ⌝ }
     {
         *self = FirstCome::new();

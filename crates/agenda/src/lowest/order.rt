@@ -79,7 +79,7 @@ pub impl Agenda for LowestUrgency as LowestUrgencyAgenda {
     // A number that waits already takes the new urgency.
     fn put(&mut self, number: u16, urgency: u8) -> bool
         ensures answer { λ y. ⌜ y ≡ ltb number number-limit ⌝ }
-        ensures after { λ _. ⌜ Same (put-number (any-urgency (urgencies-of (now (self .entry)))) number) (any-urgency (urgencies-of (now (self .exit)))) ⌝ }
+        ensures waiting { λ _. ⌜ Same (put-number (any-urgency (urgencies-of (now (self .entry)))) number) (any-urgency (urgencies-of (now (self .exit)))) ⌝ }
         ensures urgencies { λ _. ⌜ ((k : ℕ) → urgencies-of (now (self .exit)) k ≡ with-urgency (urgencies-of (now (self .entry))) number urgency k) ⌝ }
     {
         if number as usize >= NUMBERS {
@@ -103,7 +103,7 @@ pub impl Agenda for LowestUrgency as LowestUrgencyAgenda {
     }
 
     fn clear(&mut self)
-        ensures nothing { λ _. ⌜ Nothing (any-urgency (urgencies-of (now (self .exit)))) ⌝ }
+        ensures waiting { λ _. ⌜ Nothing (any-urgency (urgencies-of (now (self .exit)))) ⌝ }
         ensures urgencies { λ _. ⌜ ((k : ℕ) → urgencies-of (now (self .exit)) k ≡ None) ⌝ }
     {
         *self = LowestUrgency::new();

@@ -14,7 +14,7 @@ returns-then-contains c =
     let same = sym (lined-again (line f) n (sym (marked-line f n) ∙ sym (c .if-contains .ensures tt))) in
     record {
       answer = sym (lt-ltb n 512 (omega arith));
-      after = λ k. ap (λ l. among l k) same ∙ lined-waits (line f) n k;
+      waiting = λ k. ap (λ l. among l k) same ∙ lined-waits (line f) n k;
       order = same;
     }
 
@@ -39,6 +39,6 @@ returns c =
     let order = put-lined f n (omega arith) (sym (c .if-contains .ensures tt)) (omega arith) (omega arith) in
     record {
       answer = sym (lt-ltb n 512 (omega arith));
-      after = λ k. ap (λ l. among l k) order ∙ lined-waits (line f) n k;
+      waiting = λ k. ap (λ l. among l k) order ∙ lined-waits (line f) n k;
       order = order;
     }
