@@ -1,7 +1,16 @@
 // Rules between two fields, as they are entered and kept.
 
+ghost use mathlib.Core.Bool.{_&&_};
 ghost use mathlib.Core.Path.{_≡_};
+ghost use lib.Dec.{ltb};
 ghost use Rattle.network.specs.Kinds.{kind-of};
+ghost use Rattle.network.specs.Network.{no-field};
+
+// How many rules an opening can have.
+pub const RULES: u8 = 128;
+
+// Stands for a field where there is none.
+pub const NO_FIELD: u8 = 255;
 
 // One of the two ends of a rule.
 #[derive(Clone, Copy, PartialEq, Eq, Debug)]
@@ -15,6 +24,26 @@ pub enum Side {
 pub struct Ends {
     pub left: u8,
     pub right: u8,
+}
+
+impl Ends {
+    // The ends of a rule that is not there.
+    pub fn nowhere() -> Ends
+        ensures left { λ e. ⌜ e .left ≡ no-field ⌝ }
+        ensures right { λ e. ⌜ e .right ≡ no-field ⌝ }
+    {
+        Ends {
+            left: NO_FIELD,
+            right: NO_FIELD,
+        }
+    }
+
+    // Whether both ends are fields.
+    pub fn are_fields(self) -> bool
+        ensures { λ y. ⌜ y ≡ (ltb (self .left) no-field && ltb (self .right) no-field) ⌝ }
+    {
+        self.left < NO_FIELD && self.right < NO_FIELD
+    }
 }
 
 // How a formula rule compares the difference of its two options, left less right, with its number D.
