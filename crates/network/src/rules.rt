@@ -84,3 +84,15 @@ pub struct FormulaRule {
     pub kind: Kind,
     pub difference: i8,
 }
+
+impl FormulaRule {
+    pub fn ends(self) -> Ends
+        ensures left { λ e. ⌜ e .left ≡ self .left ⌝ }
+        ensures right { λ e. ⌜ e .right ≡ self .right ⌝ }
+    {
+        Ends {
+            left: self.left,
+            right: self.right,
+        }
+    }
+}

@@ -1,0 +1,4 @@
+pub mod Walks
+pub mod Asked
+pub mod Differences
+pub mod Tables

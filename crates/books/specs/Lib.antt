@@ -1,0 +1,5 @@
+pub mod Reads
+pub mod Formula
+pub mod Table
+pub mod Pairs
+pub mod Residues

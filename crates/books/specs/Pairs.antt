@@ -1,0 +1,60 @@
+-- Pairs of options of two fields, as pair words, and the rules that they make.
+use Prim.Native.Nat.{ℕ, zero, suc, _+_, _*_, _-_}
+use mathlib.Core.Bool.{Bool, _&&_, cond}
+use mathlib.Core.List.{List, [], _∷_, _++_}
+use lib.ListN.{getD}
+use lib.Dec.{ltb}
+use Rattle.network.specs.Network.{option-limit, field-limit, no-field, has, Rule}
+
+-- which pairs are kept: option a of field x with option b of field y
+abbrev pub Pairs : Type 0
+Pairs = ℕ → ℕ → ℕ → ℕ → Bool
+
+-- the place of the pair word of option a of field x towards field y
+abbrev pub word-at : ℕ → ℕ → ℕ → ℕ
+word-at x a y = (x * option-limit + a) * field-limit + y
+
+-- the pairs that the first n × 512 of a list of pair words stand for; a word past the end counts as 0
+abbrev pub pairs-of : ℕ → List ℕ → Pairs
+pairs-of n words x a y b = (ltb x n && (ltb a option-limit && ltb y field-limit)) && has (getD words (word-at x a y) 0) b
+
+-- the kept pairs of fields x and y, as one rule
+abbrev pub pair-rule : Pairs → ℕ → ℕ → Rule
+pair-rule q x y = record { left = x; right = y; allows = λ a b. q x a y b && q y b x a }
+
+-- the rules of x with the `more` fields from y on
+abbrev pub rules-from : Pairs → ℕ → ℕ → ℕ → List Rule
+rules-from q x y zero = []
+rules-from q x y (suc more) = pair-rule q x y ∷ rules-from q x (y + 1) more
+
+-- a rule for each x < y, by rising x, then y: the `more` fields from x on
+abbrev pub rules-of : Pairs → ℕ → ℕ → List Rule
+rules-of q x zero = []
+rules-of q x (suc more) = rules-from q x (x + 1) more ++ rules-of q (x + 1) more
+
+abbrev pub pair-rules : ℕ → Pairs → List Rule
+pair-rules n q = rules-of q 0 n
+
+-- how many pairs x < y there are below a number
+abbrev pub triangle : ℕ → ℕ
+triangle zero = 0
+triangle (suc more) = more + triangle more
+
+-- the two fields of rule r among the rules of the `more` fields from x on
+abbrev pub pair-from : ℕ → ℕ → ℕ → ℕ × ℕ
+pair-from x zero r = (no-field, no-field)
+pair-from x (suc more) r = cond (ltb r more) (x, x + 1 + r) (pair-from (x + 1) more (r - more))
+
+-- the two fields of rule r of the pair rules of n fields; 255 and 255 past their end
+abbrev pub pair-at : ℕ → ℕ → ℕ × ℕ
+pair-at n r = pair-from 0 n r
+
+-- how many pair rules of n fields have a left field below x
+abbrev pub rules-before : ℕ → ℕ → ℕ
+rules-before zero x = 0
+rules-before (suc more) zero = 0
+rules-before (suc more) (suc x) = more + rules-before more x
+
+-- the place of the rule of fields x < y among the pair rules of n fields
+abbrev pub place : ℕ → ℕ → ℕ → ℕ
+place n x y = rules-before n x + (y - x - 1)

@@ -1,0 +1,12 @@
+// Books: certification rules behind one interface.
+//
+// What a book is asked:                 book::Book
+// Rules by formulas on differences:     formula::FormulaBook
+// Rules by tables:                      table::TableBook
+// Rules by pair words:                  pair::PairBook
+// The rules of one book, then another:  joined::Joined
+// A book that remembers its partners:   remembering::Remembering
+pub mod book;
+pub mod formula;
+mod lent;
+pub mod table;
