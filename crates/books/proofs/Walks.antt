@@ -53,11 +53,12 @@ pub found-like : (passes like : ℕ → Bool) (w : ℕ) → ((b : ℕ) → T (ha
 found-like passes like w same (Some b) f = (f .0, subst T (same b (f .0)) (f .1))
 found-like passes like w same None f = λ b t u. f b t (subst T (sym (same b t)) u)
 
--- a narrower set with all that pass
-pub found-within : (passes narrow : ℕ → Bool) (w chosen : ℕ) → ((b : ℕ) → has chosen b ≡ (has w b && narrow b)) → ((b : ℕ) → T (passes b) → T (narrow b))
-    → (answer : Option ℕ) → Found passes chosen answer → Found passes w answer
-found-within passes narrow w chosen is all (Some b) f = (T-left (has w b) _ (subst T (is b) (f .0)), f .1)
-found-within passes narrow w chosen is all None f = λ b t u. f b (subst T (sym (is b)) (and-T (has w b) _ t (all b u))) u
+-- one test that a mask has made, and one of the options that it leaves
+pub found-both : (first second : ℕ → Bool) (w chosen : ℕ) → ((b : ℕ) → has chosen b ≡ (has w b && first b)) → (answer : Option ℕ) → Found second chosen answer → Found (λ b. first b && second b) w answer
+found-both first second w chosen is (Some b) f =
+    let t = subst T (is b) (f .0) in (T-left (has w b) _ t, and-T (first b) (second b) (T-right (has w b) _ t) (f .1))
+found-both first second w chosen is None f =
+    λ b t u. f b (subst T (sym (is b)) (and-T (has w b) _ t (T-left (first b) (second b) u))) (T-right (first b) (second b) u)
 
 -- nothing is found where nothing passes
 pub found-none : (passes : ℕ → Bool) (w : ℕ) → ((b : ℕ) → passes b ≡ false) → Found passes w None

@@ -1,10 +1,14 @@
 -- Pairs of options of two fields, as pair words, and the rules that they make.
-use Prim.Native.Nat.{ℕ, zero, suc, _+_, _*_, _-_}
+use Prim.Native.Nat.{ℕ, zero, suc, _+_, _*_, _-_, _<_, _≤_, min}
+use mathlib.Core.Path.{_≡_}
 use mathlib.Core.Bool.{Bool, _&&_, cond}
 use mathlib.Core.List.{List, [], _∷_, _++_}
 use lib.ListN.{getD}
 use lib.Dec.{ltb}
-use Rattle.network.specs.Network.{option-limit, field-limit, no-field, has, Rule}
+use Rattle.network.specs.Network.{option-limit, field-limit, no-field, has, Rule, no-rule}
+use Rattle.network.specs.declared.rules.Ends.{Ends}
+use Rattle.std.specs.declared.option.Option.{Option}
+use Rattle.std.specs.declared.option.Option.the-variants.{Some, None}
 
 -- which pairs are kept: option a of field x with option b of field y
 abbrev pub Pairs : Type 0
@@ -58,3 +62,16 @@ rules-before (suc more) (suc x) = more + rules-before more x
 -- the place of the rule of fields x < y among the pair rules of n fields
 abbrev pub place : ℕ → ℕ → ℕ → ℕ
 place n x y = rules-before n x + (y - x - 1)
+
+-- the rules of the pair book for n fields, and no more than there can be
+abbrev pub pair-book : ℕ → List ℕ → List Rule
+pair-book n words = pair-rules (min field-limit n) (pairs-of (min field-limit n) words)
+
+-- the ends of rule r of the pair rules of n fields, if there is such a rule
+abbrev pub Pair-ends : ℕ → ℕ → Option Ends → Type 0
+Pair-ends n r (Some ends) = (r < triangle n) × (pair-at n r ≡ (ends .left, ends .right))
+Pair-ends n r None = triangle n ≤ r
+
+-- the pair of option a of field x with option b of field y, by its bits in both orders
+abbrev pub both-orders : List ℕ → ℕ → ℕ → ℕ → ℕ → Bool
+both-orders words x a y b = has (getD words (word-at x a y) 0) b && has (getD words (word-at y b x) 0) a

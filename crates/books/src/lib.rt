@@ -9,4 +9,5 @@
 pub mod book;
 pub mod formula;
 mod lent;
+pub mod pair;
 pub mod table;

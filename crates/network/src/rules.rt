@@ -6,6 +6,9 @@ ghost use lib.Dec.{ltb};
 ghost use Rattle.network.specs.Kinds.{kind-of};
 ghost use Rattle.network.specs.Network.{no-field};
 
+// How many fields there can be; they are numbered from 0.
+pub const FIELDS: u8 = 16;
+
 // How many rules an opening can have.
 pub const RULES: u8 = 128;
 
