@@ -114,3 +114,39 @@ pub permits-out : (rule : Rule) (side : Side) (a b : ℕ) → (between-fields ru
 permits-out rule side a b e =
     no-T (permits-on rule side a b)
     (λ t. let p = T-permits rule side a b t in T-no (between-fields rule && ltb a 32) e (and-T (between-fields rule) _ (p .fields) (lt→ltb a 32 (p .own))))
+
+-- two lists that ask for the same rule
+pub allowed-like : (rules like : List Rule) (r q : ℕ) → asked rules r ≡ asked like q → (a b : ℕ) → allowed rules r a b ≡ allowed like q a b
+unfolding allowed
+allowed-like rules like r q e a b = ap (λ rule. permits rule a b) e
+
+pub allowed-on-like : (rules like : List Rule) (r q : ℕ) → asked rules r ≡ asked like q → (side : Side) (a b : ℕ) → allowed-on rules side r a b ≡ allowed-on like side q a b
+allowed-on-like rules like r q e Left a b = allowed-like rules like r q e a b
+allowed-on-like rules like r q e Right a b = allowed-like rules like r q e b a
+
+-- the rules of one list, then those of another
+pub asked-first : (xs ys : List Rule) (r : ℕ) → r < length xs → asked (xs ++ ys) r ≡ asked xs r
+asked-first xs ys r h =
+    ⊎-elim
+    (λ l. asked-is (xs ++ ys) r l ∙ getD-append-left xs ys no-rule r h ∙ sym (asked-is xs r l))
+    (λ l. asked-high (xs ++ ys) r l ∙ sym (asked-high xs r l))
+    (cases-lt r 128)
+
+pub asked-second : (xs ys : List Rule) (r : ℕ) → r < 128 → length xs ≤ r → asked (xs ++ ys) r ≡ asked ys (r - length xs)
+asked-second xs ys r small h =
+    asked-is (xs ++ ys) r small ∙ getD-append-right xs ys (length xs) r no-rule refl h ∙ sym (asked-is ys (r - length xs) (omega arith))
+
+-- an allowed pair is of a rule among the first 128 and of options that fields can have
+pub record In-range (r a b : ℕ) : Type 0 where
+  pub rule : r < 128
+  pub own : a < 32
+  pub other : b < 32
+
+pub allowed-range : (rules : List Rule) (side : Side) (r a b : ℕ) → T (allowed-on rules side r a b) → In-range r a b
+allowed-range rules side r a b t =
+    let p = T-permits (asked rules r) side a b (subst T (allowed-on-by rules r (asked rules r) refl side a b) t) in
+    record {
+      rule = ⊎-elim (λ (l : r < 128). l) (λ (l : 128 ≤ r). absurd (T-no _ (none-allowed rules r (asked-high rules r l) side a b) t)) (cases-lt r 128);
+      own = p .own;
+      other = p .other;
+    }

@@ -44,7 +44,7 @@ pub trait Book {
 }
 
 // The two options with the left one first, `option` being on that side.
-fn placed(side: Side, option: u8, other: u8) -> (u8, u8)
+pub fn placed(side: Side, option: u8, other: u8) -> (u8, u8)
     ensures { λ p. ⌜ ((rules : List Rule) (r : ℕ) → allowed-on rules side r option other ≡ allowed rules r (p .0) (p .1)) ⌝ }
 {
     match side {

@@ -19,6 +19,7 @@ use network::rules::RULES;
 use network::rules::Side;
 
 // A book over a lent list of records, one a rule.
+#[derive(Clone, Copy)]
 pub struct FormulaBook<'a> {
     rules: &'a [FormulaRule],
 }

@@ -8,6 +8,8 @@
 // A book that remembers its partners:   remembering::Remembering
 pub mod book;
 pub mod formula;
+pub mod joined;
 mod lent;
 pub mod pair;
+pub mod remembering;
 pub mod table;

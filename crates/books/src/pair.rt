@@ -16,6 +16,7 @@ use network::rules::FIELDS;
 use network::rules::Side;
 
 // A book with a rule for each two fields, over lent pair words: a set of options of each field for each option of each field.
+#[derive(Clone, Copy)]
 pub struct PairBook<'a> {
     fields: usize,
     words: &'a [OptionSet],

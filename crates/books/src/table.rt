@@ -16,6 +16,7 @@ use network::rules::RULES;
 use network::rules::Side;
 
 // A book over lent ends, one pair a rule, and lent rows: for each rule in turn, the set of right options that each left option is allowed with.
+#[derive(Clone, Copy)]
 pub struct TableBook<'a> {
     ends: &'a [Ends],
     rows: &'a [OptionSet],

@@ -5,6 +5,7 @@ ghost use mathlib.Core.Path.{_≡_};
 ghost use lib.Dec.{ltb};
 ghost use Rattle.network.specs.Kinds.{kind-of};
 ghost use Rattle.network.specs.Network.{no-field};
+ghost use Rattle.network.specs.Sides.{opposite};
 
 // How many fields there can be; they are numbered from 0.
 pub const FIELDS: u8 = 16;
@@ -20,6 +21,18 @@ pub const NO_FIELD: u8 = 255;
 pub enum Side {
     Left,
     Right,
+}
+
+impl Side {
+    // The side across the rule.
+    pub fn across(self) -> Side
+        ensures { λ s. ⌜ s ≡ opposite self ⌝ }
+    {
+        match self {
+            Side::Left => Side::Right,
+            Side::Right => Side::Left,
+        }
+    }
 }
 
 // The two fields that a rule stands between.
