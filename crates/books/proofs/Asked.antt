@@ -1,44 +1,40 @@
 -- The rule that a number asks for.
-use Prim.Native.Nat.{ℕ, zero, suc, _+_, _-_, _^_, _<_, _≤_}
-use mathlib.Core.Bool.{Bool, true, false, cond, _&&_}
+use Prim.Native.Nat.{ℕ, _+_, _-_, _^_, _<_, _≤_}
+use mathlib.Core.Bool.{Bool, false, _&&_}
 use mathlib.Core.Path.{_≡_, refl, sym, ap, subst, _∙_}
-use mathlib.Core.Logic.{_⊎_, inl, inr, ⊎-elim}
+use mathlib.Core.Logic.{_⊎_, ⊎-elim}
 use mathlib.Core.List.{List, _++_, map}
 use native.Mathlib.Omega.{arith}
 use lib.Dec.{ltb, T, lt→ltb, ltb→lt}
 use lib.ListN.{length, getD}
 use Rattle.std.proofs.shelf.Tests.{cond-true, cond-false, lt-ltb, le-ltb, cases-lt}
 use Rattle.std.proofs.shelf.Lists.{length-map, getD-map, getD-past, getD-append-left, getD-append-right}
-use Rattle.network.specs.Network.{Rule, rule-at, no-rule}
+use Rattle.network.specs.Network.{option-limit, rule-limit, no-field, Rule, rule-at, no-rule, has}
 use Rattle.network.specs.declared.rules.Side.{Side}
 use Rattle.network.specs.declared.rules.Side.the-variants.{Left, Right}
-use Rattle.network.specs.Network.{has}
-use Rattle.network.proofs.Truth.{no-T, T-yes, T-no, and-T, T-left, T-right, same-test}
+use Rattle.network.proofs.Truth.{no-T, T-no, and-T, T-left, T-right, same-test}
 use Rattle.network.proofs.Bits.{has-below}
 use Rattle.books.specs.Reads.{asked, permits, permits-on, allowed, allowed-on}
 
 -- one of the first 128
-pub asked-is : (rules : List Rule) (r : ℕ) → r < 128 → asked rules r ≡ rule-at rules r
+pub asked-is : (rules : List Rule) (r : ℕ) → r < rule-limit → asked rules r ≡ rule-at rules r
 unfolding asked
-asked-is rules r h = cond-true (ltb r 128) (rule-at rules r) no-rule (lt-ltb r 128 h)
+asked-is rules r h = cond-true (ltb r rule-limit) (rule-at rules r) no-rule (lt-ltb r rule-limit h)
 
 -- a number that no rule has
-pub asked-high : (rules : List Rule) (r : ℕ) → 128 ≤ r → asked rules r ≡ no-rule
+pub asked-high : (rules : List Rule) (r : ℕ) → rule-limit ≤ r → asked rules r ≡ no-rule
 unfolding asked
-asked-high rules r h = cond-false (ltb r 128) (rule-at rules r) no-rule (le-ltb r 128 h)
+asked-high rules r h = cond-false (ltb r rule-limit) (rule-at rules r) no-rule (le-ltb r rule-limit h)
 
 pub asked-past : (rules : List Rule) (r : ℕ) → length rules ≤ r → asked rules r ≡ no-rule
 asked-past rules r h =
-    ⊎-elim (λ l. asked-is rules r l ∙ getD-past rules r no-rule h) (λ l. asked-high rules r l) (cases-lt r 128)
-
-pub asked-none : (rules : List Rule) (r : ℕ) → (128 ≤ r) ⊎ (length rules ≤ r) → asked rules r ≡ no-rule
-asked-none rules r = ⊎-elim (asked-high rules r) (asked-past rules r)
+    ⊎-elim (λ l. asked-is rules r l ∙ getD-past rules r no-rule h) (λ l. asked-high rules r l) (cases-lt r rule-limit)
 
 -- a list of rules that are read off records
-pub asked-record : {X : Type 0} (f : X → Rule) (xs : List X) (r : ℕ) (d : X) → r < 128 → r < length xs → asked (map f xs) r ≡ f (getD xs r d)
+pub asked-record : {X : Type 0} (f : X → Rule) (xs : List X) (r : ℕ) (d : X) → r < rule-limit → r < length xs → asked (map f xs) r ≡ f (getD xs r d)
 asked-record f xs r d small h = asked-is (map f xs) r small ∙ getD-map f xs r d no-rule h
 
-pub asked-no-record : {X : Type 0} (f : X → Rule) (xs : List X) (r : ℕ) → (128 ≤ r) ⊎ (length xs ≤ r) → asked (map f xs) r ≡ no-rule
+pub asked-no-record : {X : Type 0} (f : X → Rule) (xs : List X) (r : ℕ) → (rule-limit ≤ r) ⊎ (length xs ≤ r) → asked (map f xs) r ≡ no-rule
 asked-no-record f xs r =
     ⊎-elim (asked-high (map f xs) r) (λ h. asked-past (map f xs) r (let l = length-map xs f in omega arith))
 
@@ -62,58 +58,58 @@ allows-on rule Left a b = rule .allows a b
 allows-on rule Right a b = rule .allows b a
 
 abbrev pub between-fields : Rule → Bool
-between-fields rule = ltb (rule .left) 255 && ltb (rule .right) 255
+between-fields rule = ltb (rule .left) no-field && ltb (rule .right) no-field
 
-pub permits-T : (rule : Rule) (side : Side) (a b : ℕ) → T (between-fields rule) → a < 32 → b < 32 → T (allows-on rule side a b) → T (permits-on rule side a b)
+pub permits-T : (rule : Rule) (side : Side) (a b : ℕ) → T (between-fields rule) → a < option-limit → b < option-limit → T (allows-on rule side a b) → T (permits-on rule side a b)
 permits-T rule Left a b f h l t =
-    and-T (between-fields rule) _ f (and-T (ltb a 32 && ltb b 32) _ (and-T (ltb a 32) (ltb b 32) (lt→ltb a 32 h) (lt→ltb b 32 l)) t)
+    and-T (between-fields rule) _ f (and-T (ltb a option-limit && ltb b option-limit) _ (and-T (ltb a option-limit) (ltb b option-limit) (lt→ltb a option-limit h) (lt→ltb b option-limit l)) t)
 permits-T rule Right a b f h l t =
-    and-T (between-fields rule) _ f (and-T (ltb b 32 && ltb a 32) _ (and-T (ltb b 32) (ltb a 32) (lt→ltb b 32 l) (lt→ltb a 32 h)) t)
+    and-T (between-fields rule) _ f (and-T (ltb b option-limit && ltb a option-limit) _ (and-T (ltb b option-limit) (ltb a option-limit) (lt→ltb b option-limit l) (lt→ltb a option-limit h)) t)
 
 -- what a permitted pair tells
 pub record Permitted (rule : Rule) (side : Side) (a b : ℕ) : Type 0 where
   pub fields : T (between-fields rule)
-  pub own : a < 32
-  pub other : b < 32
+  pub own : a < option-limit
+  pub other : b < option-limit
   pub pair : T (allows-on rule side a b)
 
 pub T-permits : (rule : Rule) (side : Side) (a b : ℕ) → T (permits-on rule side a b) → Permitted rule side a b
 T-permits rule Left a b t =
     let rest = T-right (between-fields rule) _ t in
-    let options = T-left (ltb a 32 && ltb b 32) (rule .allows a b) rest in
+    let options = T-left (ltb a option-limit && ltb b option-limit) (rule .allows a b) rest in
     record {
       fields = T-left (between-fields rule) _ t;
-      own = ltb→lt a 32 (T-left (ltb a 32) (ltb b 32) options);
-      other = ltb→lt b 32 (T-right (ltb a 32) (ltb b 32) options);
-      pair = T-right (ltb a 32 && ltb b 32) (rule .allows a b) rest;
+      own = ltb→lt a option-limit (T-left (ltb a option-limit) (ltb b option-limit) options);
+      other = ltb→lt b option-limit (T-right (ltb a option-limit) (ltb b option-limit) options);
+      pair = T-right (ltb a option-limit && ltb b option-limit) (rule .allows a b) rest;
     }
 T-permits rule Right a b t =
     let rest = T-right (between-fields rule) _ t in
-    let options = T-left (ltb b 32 && ltb a 32) (rule .allows b a) rest in
+    let options = T-left (ltb b option-limit && ltb a option-limit) (rule .allows b a) rest in
     record {
       fields = T-left (between-fields rule) _ t;
-      own = ltb→lt a 32 (T-right (ltb b 32) (ltb a 32) options);
-      other = ltb→lt b 32 (T-left (ltb b 32) (ltb a 32) options);
-      pair = T-right (ltb b 32 && ltb a 32) (rule .allows b a) rest;
+      own = ltb→lt a option-limit (T-right (ltb b option-limit) (ltb a option-limit) options);
+      other = ltb→lt b option-limit (T-left (ltb b option-limit) (ltb a option-limit) options);
+      pair = T-right (ltb b option-limit && ltb a option-limit) (rule .allows b a) rest;
     }
 
 -- a rule between fields permits what it allows of options that fields can have
-pub permits-at : (rule : Rule) (side : Side) (a b : ℕ) → T (between-fields rule) → a < 32 → b < 32 → allows-on rule side a b ≡ permits-on rule side a b
+pub permits-at : (rule : Rule) (side : Side) (a b : ℕ) → T (between-fields rule) → a < option-limit → b < option-limit → allows-on rule side a b ≡ permits-on rule side a b
 permits-at rule side a b f h l =
     same-test (allows-on rule side a b) (permits-on rule side a b) (permits-T rule side a b f h l) (λ t. T-permits rule side a b t .pair)
 
-pub permits-in : (rule : Rule) (side : Side) (a b w : ℕ) → w < 2 ^ 32 → T (between-fields rule) → a < 32
+pub permits-in : (rule : Rule) (side : Side) (a b w : ℕ) → w < 2 ^ option-limit → T (between-fields rule) → a < option-limit
     → (has w b && allows-on rule side a b) ≡ (has w b && permits-on rule side a b)
 permits-in rule side a b w h f l =
     same-test (has w b && allows-on rule side a b) (has w b && permits-on rule side a b)
-    (λ t. let i = T-left (has w b) _ t in and-T (has w b) _ i (permits-T rule side a b f l (has-below 32 w b h i) (T-right (has w b) _ t)))
+    (λ t. let i = T-left (has w b) _ t in and-T (has w b) _ i (permits-T rule side a b f l (has-below option-limit w b h i) (T-right (has w b) _ t)))
     (λ t. and-T (has w b) _ (T-left (has w b) _ t) (T-permits rule side a b (T-right (has w b) _ t) .pair))
 
 -- and no other does, nor for an option that no field has
-pub permits-out : (rule : Rule) (side : Side) (a b : ℕ) → (between-fields rule && ltb a 32) ≡ false → permits-on rule side a b ≡ false
+pub permits-out : (rule : Rule) (side : Side) (a b : ℕ) → (between-fields rule && ltb a option-limit) ≡ false → permits-on rule side a b ≡ false
 permits-out rule side a b e =
     no-T (permits-on rule side a b)
-    (λ t. let p = T-permits rule side a b t in T-no (between-fields rule && ltb a 32) e (and-T (between-fields rule) _ (p .fields) (lt→ltb a 32 (p .own))))
+    (λ t. let p = T-permits rule side a b t in T-no (between-fields rule && ltb a option-limit) e (and-T (between-fields rule) _ (p .fields) (lt→ltb a option-limit (p .own))))
 
 -- two lists that ask for the same rule
 pub allowed-like : (rules like : List Rule) (r q : ℕ) → asked rules r ≡ asked like q → (a b : ℕ) → allowed rules r a b ≡ allowed like q a b
@@ -130,23 +126,23 @@ asked-first xs ys r h =
     ⊎-elim
     (λ l. asked-is (xs ++ ys) r l ∙ getD-append-left xs ys no-rule r h ∙ sym (asked-is xs r l))
     (λ l. asked-high (xs ++ ys) r l ∙ sym (asked-high xs r l))
-    (cases-lt r 128)
+    (cases-lt r rule-limit)
 
-pub asked-second : (xs ys : List Rule) (r : ℕ) → r < 128 → length xs ≤ r → asked (xs ++ ys) r ≡ asked ys (r - length xs)
+pub asked-second : (xs ys : List Rule) (r : ℕ) → r < rule-limit → length xs ≤ r → asked (xs ++ ys) r ≡ asked ys (r - length xs)
 asked-second xs ys r small h =
     asked-is (xs ++ ys) r small ∙ getD-append-right xs ys (length xs) r no-rule refl h ∙ sym (asked-is ys (r - length xs) (omega arith))
 
 -- an allowed pair is of a rule among the first 128 and of options that fields can have
 pub record In-range (r a b : ℕ) : Type 0 where
-  pub rule : r < 128
-  pub own : a < 32
-  pub other : b < 32
+  pub rule : r < rule-limit
+  pub own : a < option-limit
+  pub other : b < option-limit
 
 pub allowed-range : (rules : List Rule) (side : Side) (r a b : ℕ) → T (allowed-on rules side r a b) → In-range r a b
 allowed-range rules side r a b t =
     let p = T-permits (asked rules r) side a b (subst T (allowed-on-by rules r (asked rules r) refl side a b) t) in
     record {
-      rule = ⊎-elim (λ (l : r < 128). l) (λ (l : 128 ≤ r). absurd (T-no _ (none-allowed rules r (asked-high rules r l) side a b) t)) (cases-lt r 128);
+      rule = ⊎-elim (λ (l : r < rule-limit). l) (λ (l : rule-limit ≤ r). absurd (T-no _ (none-allowed rules r (asked-high rules r l) side a b) t)) (cases-lt r rule-limit);
       own = p .own;
       other = p .other;
     }

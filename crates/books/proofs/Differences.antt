@@ -1,8 +1,7 @@
 -- Where a formula rule is fulfilled, said of the option across.
 use Prim.Native.Nat.{ℕ, _+_, _^_, _<_}
 use mathlib.Core.Bool.{Bool, true, false, _&&_, _||_, not}
-use mathlib.Core.Path.{_≡_, refl, sym, ap, subst, _∙_}
-use mathlib.Core.Logic.{_⊎_, inl, inr, ⊎-elim}
+use mathlib.Core.Path.{_≡_, refl, sym, ap, _∙_}
 use native.Mathlib.Omega.{arith}
 use lib.Dec.{T, ltb, leb}
 use lib.IntN.{ℤ, pos, negsuc, _+ℤ_, _-ℤ_, natAbs}
@@ -15,7 +14,7 @@ use Rattle.network.specs.declared.rules.Side.{Side}
 use Rattle.network.specs.declared.rules.Side.the-variants.{Left, Right}
 use Rattle.network.specs.declared.rules.Kind.{Kind}
 use Rattle.network.specs.declared.rules.Kind.the-variants.{Equal, Different, AtMost, Apart}
-use Rattle.network.specs.Network.{has}
+use Rattle.network.specs.Network.{option-limit, has}
 use Rattle.network.proofs.Truth.{no-T, T-yes, and-T, T-left, T-right, same-test}
 use Rattle.network.proofs.Bits.{has-below, none-of-zero}
 use Rattle.network.specs.declared.rules.FormulaRule.{FormulaRule}
@@ -94,16 +93,16 @@ high-cut w b i t = ap (λ x. has w b && x) (same i t)
     same (negsuc n) t = absurd t
 
 -- a number above every option bounds none of them from above, and all of them from below
-pub all-low : (w b : ℕ) (i : ℤ) → w < 2 ^ 32 → pos 32 ≤ℤ i → has w b ≡ (has w b && leZ (pos b) i)
+pub all-low : (w b : ℕ) (i : ℤ) → w < 2 ^ option-limit → pos option-limit ≤ℤ i → has w b ≡ (has w b && leZ (pos b) i)
 all-low w b i h l = same-test (has w b) (has w b && leZ (pos b) i)
-    (λ t. let s : b < 32 = has-below 32 w b h t in let o : pos b ≤ℤ i = omega (arith, ints) in and-T (has w b) (leZ (pos b) i) t (o .le))
+    (λ t. let s : b < option-limit = has-below option-limit w b h t in let o : pos b ≤ℤ i = omega (arith, ints) in and-T (has w b) (leZ (pos b) i) t (o .le))
     (λ t. T-left (has w b) (leZ (pos b) i) t)
 
-pub none-high : (w b : ℕ) (i : ℤ) → w < 2 ^ 32 → pos 32 ≤ℤ i → has 0 b ≡ (has w b && leZ i (pos b))
+pub none-high : (w b : ℕ) (i : ℤ) → w < 2 ^ option-limit → pos option-limit ≤ℤ i → has 0 b ≡ (has w b && leZ i (pos b))
 none-high w b i h l =
     none-of-zero b
     ∙ sym (no-T (has w b && leZ i (pos b))
-    (λ t. let s : b < 32 = has-below 32 w b h (T-left (has w b) (leZ i (pos b)) t) in
+    (λ t. let s : b < option-limit = has-below option-limit w b h (T-left (has w b) (leZ i (pos b)) t) in
     let o : i ≤ℤ pos b = record { le = T-right (has w b) (leZ i (pos b)) t } in
     let e : _≡_ {A = ℕ} 0 1 = omega (arith, ints) in omega arith))
 
@@ -112,8 +111,8 @@ pub not-negative : (i : ℤ) → ltZ i (pos 0) ≡ false → T (nonNeg i)
 not-negative (pos n) e = tt
 not-negative (negsuc n) e = let z : _≡_ {A = ℕ} 0 1 = cc in absurd (omega arith)
 
-pub from-limit : (i r : ℤ) → r ≡ pos 32 → leZ (toZ w16 (ofZ w16 r)) i ≡ true → pos 32 ≤ℤ i
-from-limit i r e t = record { le = T-yes (leZ (pos 32) i) (ap (λ x. leZ (toZ w16 (ofZ w16 x)) i) (sym e) ∙ t) }
+pub from-limit : (i r : ℤ) → r ≡ pos option-limit → leZ (toZ w16 (ofZ w16 r)) i ≡ true → pos option-limit ≤ℤ i
+from-limit i r e t = record { le = T-yes (leZ (pos option-limit) i) (ap (λ x. leZ (toZ w16 (ofZ w16 x)) i) (sym e) ∙ t) }
 
 -- a record's pairs, by side
 pub fulfils-on : (f : FormulaRule) (side : Side) (a b : ℕ) → fulfils (f .kind) (f .difference) (difference-on side a b) ≡ allows-on (formula-rule f) side a b

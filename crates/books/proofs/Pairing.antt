@@ -1,16 +1,15 @@
 -- The pair rules: how many there are, the fields of each, and the place of each pair of fields.
 use Prim.Native.Nat.{ℕ, zero, suc, _+_, _*_, _-_, _<_, _≤_}
-use mathlib.Core.Bool.{Bool, true, false, _&&_, cond}
+use mathlib.Core.Bool.{false, _&&_}
 use mathlib.Core.Path.{_≡_, refl, sym, ap, subst, _∙_}
-use mathlib.Core.Logic.{_⊎_, inl, inr, ⊎-elim}
-use mathlib.Core.List.{List, [], _∷_, _++_}
+use mathlib.Core.Logic.{_⊎_, ⊎-elim}
 use native.Mathlib.Omega.{arith}
 use native.Mathlib.Nat.{suc-mul, mul-suc}
-use lib.ListN.{length, getD}
-use lib.Dec.{eqb, ltb, T}
+use lib.ListN.{length}
+use lib.Dec.{ltb}
 use Rattle.std.proofs.shelf.Lists.{length-append, getD-append-left, getD-append-right, getD-past}
 use Rattle.std.proofs.shelf.Tests.{lt-ltb, le-ltb, cases-lt, cond-true, cond-false}
-use Rattle.network.specs.Network.{Rule, rule-at, no-rule}
+use Rattle.network.specs.Network.{field-limit, no-field, Rule, rule-at, no-rule}
 use Rattle.books.specs.Pairs.{Pairs, pair-rule, rules-from, rules-of, pair-rules, triangle, pair-from, pair-at, rules-before, place}
 
 from-length : (q : Pairs) (x y more : ℕ) → length (rules-from q x y more) ≡ more
@@ -36,8 +35,8 @@ triangle-grows zero n h = omega arith
 triangle-grows (suc m) zero h = absurd (omega arith)
 triangle-grows (suc m) (suc n) h = let r = triangle-grows m n (omega arith) in omega arith
 
-pub triangle-few : (n : ℕ) → n ≤ 16 → triangle n ≤ 120
-triangle-few n h = triangle-grows n 16 h
+pub triangle-few : (n : ℕ) → n ≤ field-limit → triangle n ≤ 120
+triangle-few n h = triangle-grows n field-limit h
 
 from-at : (q : Pairs) (x y more r : ℕ) → r < more → rule-at (rules-from q x y more) r ≡ pair-rule q x (y + r)
 from-at q x y zero r h = absurd (omega arith)
@@ -94,7 +93,7 @@ ends-order n r h = ends-of 0 n r h .order
 pub ends-below : (n r : ℕ) → r < triangle n → pair-at n r .1 < n
 ends-below n r h = let e = ends-of 0 n r h .high in omega arith
 
-pair-past : (x more r : ℕ) → triangle more ≤ r → pair-from x more r ≡ (255, 255)
+pair-past : (x more r : ℕ) → triangle more ≤ r → pair-from x more r ≡ (no-field, no-field)
 pair-past x zero r h = refl
 pair-past x (suc more) r h = pair-later x more r (omega arith) ∙ pair-past (x + 1) more (r - more) (omega arith)
 

@@ -1,5 +1,4 @@
 -- The rules of one book, then those of another.
-use Prim.Native.Nat.{ℕ}
 use mathlib.Core.List.{List}
 use Rattle.network.specs.Network.{Rule, no-rule}
 use Rattle.books.specs.Reads.{asked}

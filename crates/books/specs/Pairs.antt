@@ -5,7 +5,7 @@ use mathlib.Core.Bool.{Bool, _&&_, cond}
 use mathlib.Core.List.{List, [], _∷_, _++_}
 use lib.ListN.{getD}
 use lib.Dec.{ltb}
-use Rattle.network.specs.Network.{option-limit, field-limit, no-field, has, Rule, no-rule}
+use Rattle.network.specs.Network.{option-limit, field-limit, no-field, has, Rule}
 use Rattle.network.specs.declared.rules.Ends.{Ends}
 use Rattle.std.specs.declared.option.Option.{Option}
 use Rattle.std.specs.declared.option.Option.the-variants.{Some, None}

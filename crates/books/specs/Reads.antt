@@ -1,13 +1,18 @@
 -- What the four questions of a book read of its list of rules.
-use Prim.Native.Nat.{ℕ}
+use Prim.Native.Nat.{ℕ, _+_, min}
 use mathlib.Core.Bool.{Bool, _&&_, cond}
 use mathlib.Core.List.{List}
 use lib.Dec.{ltb, T}
+use lib.ListN.{length}
 use Rattle.network.specs.Network.{option-limit, rule-limit, no-field, has, Rule, rule-at, no-rule}
 use Rattle.network.specs.declared.rules.Side.{Side}
 use Rattle.network.specs.declared.rules.Side.the-variants.{Left, Right}
 use Rattle.std.specs.declared.option.Option.{Option}
 use Rattle.std.specs.declared.option.Option.the-variants.{Some, None}
+
+-- how many rules there are; one more than there can be stands for any larger number
+abbrev pub count-of : List Rule → ℕ
+count-of rules = min (rule-limit + 1) (length rules)
 
 -- the rule that number r asks for: one of the first 128 of the list, and else no rule
 unfoldable pub asked : List Rule → ℕ → Rule

@@ -17,6 +17,10 @@ abbrev pub side-number : Side → ℕ
 side-number Left = 0
 side-number Right = 1
 
+-- one for each rule, side and option
+abbrev pub residue-count : ℕ
+residue-count = rule-limit * 2 * option-limit
+
 -- the place of the residue of option a on a side of rule r
 abbrev pub residue-place : Side → ℕ → ℕ → ℕ
 residue-place side r a = (r * 2 + side-number side) * option-limit + a

@@ -2,10 +2,9 @@
 
 ghost use mathlib.Core.Path.{_≡_};
 ghost use mathlib.Core.List.{List};
-ghost use Prim.Native.Nat.{ℕ, min};
-ghost use lib.ListN.{length};
 ghost use Rattle.network.specs.Network.{Rule};
-ghost use Rattle.books.specs.Reads.{asked, allowed, allowed-on, Partner};
+ghost use Rattle.books.specs.Reads.{count-of, asked, allowed, Partner};
+use super::sides::placed;
 use network::options::OptionSet;
 use network::rules::Ends;
 use network::rules::Side;
@@ -16,7 +15,7 @@ pub trait Book {
 
     // How many rules there are; 129 stands for any number above 128.
     fn count(&self) -> u8
-        ensures { λ n. ⌜ n ≡ min 129 (length (meaning (now (self .entry)))) ⌝ };
+        ensures { λ n. ⌜ n ≡ count-of (meaning (now (self .entry))) ⌝ };
 
     // The two fields of a rule; nowhere for a number above 127, or past the list.
     fn ends(&self, rule: u8) -> Ends
@@ -40,15 +39,5 @@ pub trait Book {
             }
         }
         None
-    }
-}
-
-// The two options with the left one first, `option` being on that side.
-pub fn placed(side: Side, option: u8, other: u8) -> (u8, u8)
-    ensures { λ p. ⌜ ((rules : List Rule) (r : ℕ) → allowed-on rules side r option other ≡ allowed rules r (p .0) (p .1)) ⌝ }
-{
-    match side {
-        Side::Left => (option, other),
-        Side::Right => (other, option),
     }
 }

@@ -17,6 +17,7 @@ use network::rules::FormulaRule;
 use network::rules::Kind;
 use network::rules::RULES;
 use network::rules::Side;
+use network::rules::TOO_MANY;
 
 // A book over a lent list of records, one a rule.
 #[derive(Clone, Copy)]
@@ -46,7 +47,7 @@ pub impl<'a> Book for FormulaBook<'a> as FormulaBookBook {
     ghost meaning = { λ b. formula-rules (behind (b .rules)) };
 
     fn count(&self) -> u8 {
-        self.rules.len().min(129) as u8
+        self.rules.len().min(TOO_MANY as usize) as u8
     }
 
     fn ends(&self, rule: u8) -> Ends {

@@ -9,6 +9,7 @@ use network::options::OptionSet;
 use network::rules::Ends;
 use network::rules::RULES;
 use network::rules::Side;
+use network::rules::TOO_MANY;
 
 // Where a rule of the joined book stands: its number in the first or in the second book.
 enum Place {
@@ -50,7 +51,7 @@ pub impl<F: Book, S: Book> Book for Joined<F, S> as JoinedBook {
 
     fn count(&self) -> u8 {
         let both = u16::from(self.first.count()) + u16::from(self.second.count());
-        both.min(129) as u8
+        both.min(TOO_MANY as u16) as u8
     }
 
     fn ends(&self, rule: u8) -> Ends {

@@ -12,4 +12,7 @@ pub mod joined;
 mod lent;
 pub mod pair;
 pub mod remembering;
+mod sides;
 pub mod table;
+#[cfg(test)]
+mod tests;

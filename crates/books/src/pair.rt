@@ -4,7 +4,7 @@ ghost use mathlib.Core.Path.{_≡_};
 ghost use Prim.Native.Nat.{min};
 ghost use denote.Ref.{now as behind};
 ghost use lib.ListN.{getD};
-ghost use Rattle.network.specs.Network.{words as words-of};
+ghost use Rattle.network.specs.Network.{field-limit, words as words-of};
 ghost use Rattle.books.specs.Reads.{Found};
 ghost use Rattle.books.specs.Pairs.{word-at, pair-book, Pair-ends, both-orders};
 use super::book::Book;
@@ -32,7 +32,7 @@ impl<'a> PairBook<'a> {
 
     // The ends of a rule, if there is such a rule.
     fn ends_of(&self, rule: u8) -> Option<Ends>
-        ensures { λ o. ⌜ Pair-ends (min 16 (now (self .entry) .fields)) rule o ⌝ }
+        ensures { λ o. ⌜ Pair-ends (min field-limit (now (self .entry) .fields)) rule o ⌝ }
     {
         pair_ends(self.fields.min(usize::from(FIELDS)) as u8, rule)
     }

@@ -1,14 +1,12 @@
 // A book that remembers its partners.
 
-ghost use mathlib.Core.List.{List};
 ghost use mathlib.Core.Path.{_≡_};
-ghost use Prim.Native.Nat.{_<_};
 ghost use lib.ListN.{replicate};
 ghost use Rattle.books.specs.Reads.{Partner};
-ghost use Rattle.books.specs.Residues.{residue-place, kept-after, Tells-kept, Serves, In-table};
+ghost use Rattle.books.specs.Residues.{residue-count, residue-place, kept-after, Tells-kept, Serves, In-table};
 ghost use Rattle.std.specs.declared.option.Option.the-variants.{None};
 use super::book::Book;
-use super::book::placed;
+use super::sides::placed;
 use network::options::OPTIONS;
 use network::options::OptionSet;
 use network::rules::Ends;
@@ -16,7 +14,7 @@ use network::rules::RULES;
 use network::rules::Side;
 
 // One residue for each rule, side and option.
-const RESIDUES: usize = 8192;
+const RESIDUES: usize = RULES as usize * 2 * OPTIONS as usize;
 
 // A book over any book, with the same meaning. It keeps for each rule, side and option the last partner that it told, its residue,
 // and tells that one again where it still serves.
@@ -29,7 +27,7 @@ pub struct Remembering<B: Book> {
 impl<B: Book> Remembering<B> {
     pub fn new(book: B) -> Remembering<B>
         ensures book { λ m. ⌜ m .book ≡ book ⌝ }
-        ensures kept { λ m. ⌜ m .kept ≡ replicate 8192 None ⌝ }
+        ensures kept { λ m. ⌜ m .kept ≡ replicate residue-count None ⌝ }
     {
         Remembering {
             book,

@@ -1,6 +1,5 @@
 // Rules by tables.
 
-ghost use mathlib.Core.Bool.{_&&_};
 ghost use mathlib.Core.Path.{_≡_};
 ghost use Prim.Native.Nat.{ℕ};
 ghost use denote.Ref.{now as behind};
@@ -14,6 +13,7 @@ use network::options::OptionSet;
 use network::rules::Ends;
 use network::rules::RULES;
 use network::rules::Side;
+use network::rules::TOO_MANY;
 
 // A book over lent ends, one pair a rule, and lent rows: for each rule in turn, the set of right options that each left option is allowed with.
 #[derive(Clone, Copy)]
@@ -68,7 +68,7 @@ pub impl<'a> Book for TableBook<'a> as TableBookBook {
     ghost meaning = { λ b. table-rules (behind (b .ends)) (words (behind (b .rows))) };
 
     fn count(&self) -> u8 {
-        self.ends.len().min(129) as u8
+        self.ends.len().min(TOO_MANY as usize) as u8
     }
 
     fn ends(&self, rule: u8) -> Ends {

@@ -1,17 +1,17 @@
 -- What masks of one option do to a set word, over any width k.
 use Prim.Native.Nat.{ℕ, zero, suc, _+_, _*_, _-_, _/_, _%_, _^_, _<_, _≤_, min}
-use mathlib.Core.Bool.{Bool, true, false, _&&_, _||_, not, cond}
+use mathlib.Core.Bool.{true, false, _&&_, _||_, not, cond}
 use mathlib.Core.Path.{_≡_, refl, sym, ap, subst, _∙_}
-use mathlib.Core.Logic.{_⊎_, inl, inr, ⊎-elim}
+use mathlib.Core.Logic.{_⊎_, ⊎-elim}
 use native.Mathlib.Omega.{arith}
 use native.Mathlib.Nat.{pow-suc}
 use lib.Bits.{bitAnd, bitOr, and-high, or-add-and, and-step, and-zero-r}
 use lib.Dec.{eqb, ltb, T}
 use Rattle.std.proofs.shelf.Bits.{pow-add, pow-below, pow-pos, mod-below}
 use Rattle.std.proofs.shelf.Tests.{eqb-true, eqb-false, eq-eqb, ne-eqb, cases-bool, cases-lt, cases-eq, cond-true, cond-false, lt-ltb, le-ltb}
-use Rattle.network.specs.Network.{has}
+use Rattle.network.specs.Network.{option-limit, has}
 use Rattle.network.specs.Sets.{alone, set-without, set-with}
-use Rattle.network.proofs.Truth.{yes-T, no-T, T-yes, T-no, and-true, and-false, or-false}
+use Rattle.network.proofs.Truth.{yes-T, T-yes, T-no, and-true, and-false}
 use Rattle.network.proofs.Bits.{has-le, has-less, has-pow, has-none, none-of-zero, has-or}
 
 and-bit : (w a : ℕ) → bitAnd w (2 ^ a) ≡ ((w / 2 ^ a) % 2) * 2 ^ a
@@ -82,12 +82,12 @@ or-one k w a h =
     (cases-bool (has w a))
 
 -- which options these sets have
-pub has-alone : (a b : ℕ) → has (alone a) b ≡ (ltb a 32 && eqb b a)
+pub has-alone : (a b : ℕ) → has (alone a) b ≡ (ltb a option-limit && eqb b a)
 has-alone a b =
     ⊎-elim
-    (λ e. ap (λ m. has m b) (cond-true (ltb a 32) (2 ^ a) 0 e) ∙ has-pow a b ∙ ap (λ t. t && eqb b a) (sym e))
-    (λ e. ap (λ m. has m b) (cond-false (ltb a 32) (2 ^ a) 0 e) ∙ none-of-zero b ∙ ap (λ t. t && eqb b a) (sym e))
-    (cases-bool (ltb a 32))
+    (λ e. ap (λ m. has m b) (cond-true (ltb a option-limit) (2 ^ a) 0 e) ∙ has-pow a b ∙ ap (λ t. t && eqb b a) (sym e))
+    (λ e. ap (λ m. has m b) (cond-false (ltb a option-limit) (2 ^ a) 0 e) ∙ none-of-zero b ∙ ap (λ t. t && eqb b a) (sym e))
+    (cases-bool (ltb a option-limit))
 
 pub has-without : (w a b : ℕ) → has (set-without w a) b ≡ (has w b && not (eqb b a))
 has-without w a b =
@@ -100,16 +100,16 @@ has-without w a b =
     (cases-eq b a))
     (cases-bool (has w a))
 
-pub has-with : (w a b : ℕ) → w < 2 ^ 32 → has (set-with w a) b ≡ (has w b || (ltb a 32 && eqb b a))
-has-with w a b h = ap (λ m. has m b) (sym (or-one 32 w a h)) ∙ has-or w (alone a) b ∙ ap (λ t. has w b || t) (has-alone a b)
+pub has-with : (w a b : ℕ) → w < 2 ^ option-limit → has (set-with w a) b ≡ (has w b || (ltb a option-limit && eqb b a))
+has-with w a b h = ap (λ m. has m b) (sym (or-one option-limit w a h)) ∙ has-or w (alone a) b ∙ ap (λ t. has w b || t) (has-alone a b)
 
 -- an option that was taken out is put back
-pub put-back : (w a : ℕ) → w < 2 ^ 32 → T (has w a) → set-with (set-without w a) a ≡ w
+pub put-back : (w a : ℕ) → w < 2 ^ option-limit → T (has w a) → set-with (set-without w a) a ≡ w
 put-back w a h t =
     let out : set-without w a ≡ w - 2 ^ a = cond-true (has w a) (w - 2 ^ a) w (yes-T (has w a) t) in
     let gone : has (w - 2 ^ a) a ≡ false =
     has-less w a a t ∙ ap (λ e. has w a && not e) (eq-eqb a a refl) ∙ and-false (has w a) in
-    let within : a < 32 = ⊎-elim (λ (l : a < 32). l) (λ (l : 32 ≤ a). absurd (T-no (has w a) (has-none 32 w a h l) t)) (cases-lt a 32) in
-    let one = cond-true (ltb a 32) (2 ^ a) 0 (lt-ltb a 32 within) in
+    let within : a < option-limit = ⊎-elim (λ (l : a < option-limit). l) (λ (l : option-limit ≤ a). absurd (T-no (has w a) (has-none option-limit w a h l) t)) (cases-lt a option-limit) in
+    let one = cond-true (ltb a option-limit) (2 ^ a) 0 (lt-ltb a option-limit within) in
     let small = has-le w a t in
     ap (λ v. set-with v a) out ∙ cond-false (has (w - 2 ^ a) a) (w - 2 ^ a) (w - 2 ^ a + alone a) gone ∙ omega arith

@@ -1,6 +1,6 @@
 -- What the operations on sets of options give, said of their words.
 use Prim.Native.Nat.{ℕ, _+_, _-_, _*_, _/_, _%_, _^_, _<_}
-use mathlib.Core.Bool.{Bool, false, cond}
+use mathlib.Core.Bool.{false, cond}
 use mathlib.Core.Path.{_≡_}
 use lib.Count.{trailingZeros}
 use lib.Dec.{eqb, ltb, T}

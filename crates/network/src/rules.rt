@@ -13,6 +13,9 @@ pub const FIELDS: u8 = 16;
 // How many rules an opening can have.
 pub const RULES: u8 = 128;
 
+// Stands for any number of rules that is too high.
+pub const TOO_MANY: u8 = RULES + 1;
+
 // Stands for a field where there is none.
 pub const NO_FIELD: u8 = 255;
 

@@ -1,4 +1,4 @@
-use mathlib.Core.Bool.{_&&_, true, false}
+use mathlib.Core.Bool.{true, false}
 use mathlib.Core.Path.{_≡_, ap, subst, _∙_}
 use Prim.Native.Nat.{_+_, _%_, _^_, _<_}
 use borrow.Author.Needs.{needs}
@@ -8,7 +8,7 @@ use lib.Signed.{leZ, ltZ, nonNeg, _≤ℤ_}
 use mir.Syntax.{w16}
 use mir.Val.{toZ, ofZ}
 use Rattle.std.proofs.shelf.Signed.{toZ-ofZ}
-use Rattle.network.specs.Network.{has}
+use Rattle.network.specs.Network.{option-limit, has}
 use Rattle.network.proofs.Bits.{has-low}
 use Rattle.books.proofs.Differences.{low-cut, all-low, not-negative, from-limit}
 use Rattle.books.proofs.formula.up_to.Needs as need
@@ -17,8 +17,8 @@ pub returns-then-number-from : need.returns-then-number-from
 returns-then-number-from c b =
     let i = c .args .number in
     let same = toZ-ofZ w16 i (c .fits .number) in
-    let fits : c .args .set .word < 2 ^ 32 = search needs in
-    let most : pos 32 ≤ℤ i = from-limit i (c .from .result) (c .from .ensures) (subst (λ x. leZ (toZ w16 (ofZ w16 (c .from .result))) x ≡ true) same (c .if-number-from .taken)) in
+    let fits : c .args .set .word < 2 ^ option-limit = search needs in
+    let most : pos option-limit ≤ℤ i = from-limit i (c .from .result) (c .from .ensures) (subst (λ x. leZ (toZ w16 (ofZ w16 (c .from .result))) x ≡ true) same (c .if-number-from .taken)) in
     all-low (c .args .set .word) b i fits most
 
 pub returns : need.returns

@@ -1,4 +1,3 @@
-use mathlib.Core.Path.{_≡_}
 use Rattle.books.specs.Reads.{allowed-on}
 use Rattle.books.proofs.Walks.{Waits}
 use Rattle.books.proofs.book.Book.partner.Given as given

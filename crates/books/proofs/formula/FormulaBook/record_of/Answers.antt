@@ -2,6 +2,7 @@ use mathlib.Core.Logic.{_⊎_, inl, inr}
 use Prim.Native.Nat.{_≤_}
 use lib.ListN.{length}
 use native.Mathlib.Omega.{arith}
+use Rattle.network.specs.Network.{rule-limit}
 use Rattle.books.specs.Formula.{formula-rule}
 use Rattle.books.proofs.Asked.{asked-record, asked-no-record}
 use Rattle.books.proofs.formula.FormulaBook.record_of.Needs as need
@@ -10,7 +11,7 @@ use Rattle.books.proofs.formula.FormulaBook.record_of.Needs.{then-rule-ge-RULE
 pub returns-then-rule-ge-RULES : need.returns-then-rule-ge-RULES
 returns-then-rule-ge-RULES c =
     let rules = c .args .self .now .rules .now in
-    let way : (128 ≤ c .args .rule) ⊎ (length rules ≤ c .args .rule) =
+    let way : (rule-limit ≤ c .args .rule) ⊎ (length rules ≤ c .args .rule) =
     elim (c .then-rule-ge-RULES .came) [ then-rule-ge-RULES·by·then-rule-ge-RULES w ↦ inl (omega (arith, w .if-rule-ge-RULES .taken)) | then-rule-ge-RULES·by·else-rule-ge-RULES·then-rule-self w ↦ inr (omega (arith, w .if-rule-self .taken)) ] in
     asked-no-record formula-rule rules (c .args .rule) way
 

@@ -1,4 +1,4 @@
-use mathlib.Core.Path.{refl, sym, ap, _∙_}
+use mathlib.Core.Path.{refl, sym, ap}
 use mathlib.Core.List.{_++_}
 use Rattle.books.specs.Reads.{allowed-on}
 use Rattle.books.proofs.Asked.{allowed-on-like, none-allowed}

@@ -2,7 +2,7 @@ use mathlib.Core.Path.{refl}
 use Prim.Native.Nat.{_^_, _<_, _≤_, min}
 use native.Mathlib.Omega.{arith}
 use borrow.Author.Needs.{needs}
-use Rattle.network.specs.Network.{words}
+use Rattle.network.specs.Network.{option-limit, field-limit, words}
 use Rattle.books.specs.Reads.{allowed-on}
 use Rattle.books.specs.Pairs.{pair-book}
 use Rattle.books.proofs.Asked.{none-allowed}
@@ -12,8 +12,8 @@ use Rattle.books.proofs.pair.PairBookBook.partner.Needs as need
 
 pub returns-in-rest : need.returns-in-rest
 returns-in-rest c =
-    let n = min 16 (c .args .self .now .fields) in
-    let few : n ≤ 16 = omega arith in
+    let n = min field-limit (c .args .self .now .fields) in
+    let few : n ≤ field-limit = omega arith in
     let list = words (c .args .self .now .words .now) in
     let rules = pair-book (c .args .self .now .fields) list in
     record {
@@ -24,9 +24,9 @@ returns-in-rest c =
 
 pub returns-in-Left : need.returns-in-Left
 returns-in-Left c =
-    let n = min 16 (c .args .self .now .fields) in
-    let few : n ≤ 16 = omega arith in
-    let fits : c .args .set .word < 2 ^ 32 = search needs in
+    let n = min field-limit (c .args .self .now .fields) in
+    let few : n ≤ field-limit = omega arith in
+    let fits : c .args .set .word < 2 ^ option-limit = search needs in
     record {
       same = refl;
       found = pair-from-left n few (words (c .args .self .now .words .now)) (c .args .rule) (c .in-Some .ends .left) (c .in-Some .ends .right) (c .in-Some .ensures tt .0) (c .in-Some .ensures tt .1)
@@ -35,9 +35,9 @@ returns-in-Left c =
 
 pub returns-in-Right : need.returns-in-Right
 returns-in-Right c =
-    let n = min 16 (c .args .self .now .fields) in
-    let few : n ≤ 16 = omega arith in
-    let fits : c .args .set .word < 2 ^ 32 = search needs in
+    let n = min field-limit (c .args .self .now .fields) in
+    let few : n ≤ field-limit = omega arith in
+    let fits : c .args .set .word < 2 ^ option-limit = search needs in
     record {
       same = refl;
       found = pair-from-right n few (words (c .args .self .now .words .now)) (c .args .rule) (c .in-Some .ends .left) (c .in-Some .ends .right) (c .in-Some .ensures tt .0) (c .in-Some .ensures tt .1)
@@ -46,8 +46,8 @@ returns-in-Right c =
 
 pub returns : need.returns
 returns c =
-    let n = min 16 (c .args .self .now .fields) in
-    let few : n ≤ 16 = omega arith in
+    let n = min field-limit (c .args .self .now .fields) in
+    let few : n ≤ field-limit = omega arith in
     let list = words (c .args .self .now .words .now) in
     record {
       same = refl;

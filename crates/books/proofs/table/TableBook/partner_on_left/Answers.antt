@@ -1,5 +1,5 @@
 use mathlib.Core.Bool.{Bool}
-use mathlib.Core.Path.{_≡_, sym, ap, subst, _∙_}
+use mathlib.Core.Path.{sym, ap, subst, _∙_}
 use Prim.Native.Nat.{ℕ, _<_}
 use Rattle.network.specs.Network.{has, words}
 use Rattle.network.proofs.Truth.{T-yes, T-no}
