@@ -121,7 +121,7 @@ fn fulfilling(rule: FormulaRule, side: Side, option: u8, set: OptionSet) -> Opti
     }
 }
 
-// The number across whose difference with an option on that side is the rule's number.
+// Where the rule's number is met: the number across whose difference with an option on that side it is.
 fn meeting(side: Side, option: u8, difference: i8) -> i16
     ensures { λ m. ⌜ m ≡ meeting-on side option difference ⌝ }
 {
@@ -131,7 +131,7 @@ fn meeting(side: Side, option: u8, difference: i8) -> i16
     }
 }
 
-// The options of the set for which the difference is no more than where it meets the rule's number.
+// The options of the set whose difference is at most the rule's number, given where that is met: from the left, greater options differ less.
 fn at_most(side: Side, set: OptionSet, across: i16) -> OptionSet
     ensures { λ s. ⌜ ((b : ℕ) → has (s .word) b ≡ (has (set .word) b && before-on side across b)) ⌝ }
 {
