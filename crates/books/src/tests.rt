@@ -62,6 +62,52 @@ fn formulas_are_exact_at_both_ends() -> Result<(), Fail> {
     Ok(())
 }
 
+// Keeps the partner question that goes through the set.
+#[derive(Drop)]
+struct Plain<B: Book>(B);
+
+impl<B: Book> Book for Plain<B> as PlainBook {
+    ghost meaning = { λ p. B·Book .meaning (p .0) };
+
+    fn count(&self) -> u8 {
+        self.0.count()
+    }
+
+    fn ends(&self, rule: u8) -> Ends {
+        self.0.ends(rule)
+    }
+
+    fn allows(&self, rule: u8, left: u8, right: u8) -> bool {
+        self.0.allows(rule, left, right)
+    }
+}
+
+#[test]
+fn masks_and_a_plain_scan_agree() -> Result<(), Fail> {
+    let kinds = [
+        Kind::Equal,
+        Kind::Different,
+        Kind::AtMost,
+        Kind::Apart,
+        Kind::Unknown,
+    ];
+    let set = OptionSet::from_word(0x8001_0220);
+    for kind in kinds {
+        for number in [-128, -32, -31, -1, 0, 1, 31, 32, 127] {
+            let rules = [rule(kind, number)];
+            let mut masks = FormulaBook::new(&rules);
+            let mut plain = Plain(FormulaBook::new(&rules));
+            for option in 0..34 {
+                let left = plain.partner(0, Side::Left, option, set);
+                let right = plain.partner(0, Side::Right, option, set);
+                check_eq(masks.partner(0, Side::Left, option, set), left)?;
+                check_eq(masks.partner(0, Side::Right, option, set), right)?;
+            }
+        }
+    }
+    Ok(())
+}
+
 #[test]
 fn long_and_empty_lists_of_rules() -> Result<(), Fail> {
     let many = [rule(Kind::Equal, 0); 130];

@@ -6,13 +6,14 @@ use mathlib.Core.Logic.{_⊎_, ⊎-elim}
 use native.Mathlib.Omega.{arith}
 use native.Mathlib.Nat.{pow-suc}
 use lib.Bits.{bitAnd, bitOr, and-high, or-add-and, and-step, and-zero-r}
+use lib.Count.{ones, ones-le}
 use lib.Dec.{eqb, ltb, T}
 use Rattle.std.proofs.shelf.Bits.{pow-add, pow-below, pow-pos, mod-below}
 use Rattle.std.proofs.shelf.Tests.{eqb-true, eqb-false, eq-eqb, ne-eqb, cases-bool, cases-lt, cases-eq, cond-true, cond-false, lt-ltb, le-ltb}
 use Rattle.network.specs.Network.{option-limit, has}
 use Rattle.network.specs.Sets.{alone, set-without, set-with}
 use Rattle.network.proofs.Truth.{yes-T, T-yes, T-no, and-true, and-false}
-use Rattle.network.proofs.Bits.{has-le, has-less, has-pow, has-none, none-of-zero, has-or}
+use Rattle.network.proofs.Bits.{ones-less, has-le, has-less, has-pow, has-none, none-of-zero, has-or}
 
 and-bit : (w a : ℕ) → bitAnd w (2 ^ a) ≡ ((w / 2 ^ a) % 2) * 2 ^ a
 and-bit w a =
@@ -103,10 +104,27 @@ has-without w a b =
 pub has-with : (w a b : ℕ) → w < 2 ^ option-limit → has (set-with w a) b ≡ (has w b || (ltb a option-limit && eqb b a))
 has-with w a b h = ap (λ m. has m b) (sym (or-one option-limit w a h)) ∙ has-or w (alone a) b ∙ ap (λ t. has w b || t) (has-alone a b)
 
+-- an option that is in the set, taken out; one that a field can have, alone
+pub without-is : (w a : ℕ) → T (has w a) → set-without w a ≡ w - 2 ^ a
+without-is w a t = cond-true (has w a) (w - 2 ^ a) w (yes-T (has w a) t)
+
+pub ones-without : (w a : ℕ) → T (has w a) → ones (set-without w a) + 1 ≡ ones w
+ones-without w a t = ap (λ v. ones v + 1) (without-is w a t) ∙ ones-less w a t
+
+pub alone-is : (a : ℕ) → a < option-limit → alone a ≡ 2 ^ a
+alone-is a h = cond-true (ltb a option-limit) (2 ^ a) 0 (lt-ltb a option-limit h)
+
+pub ones-alone : (a : ℕ) → a < option-limit → ones (alone a) ≡ 1
+ones-alone a h =
+    let one = ones-less (2 ^ a) a (T-yes (has (2 ^ a) a) (has-pow a a ∙ eq-eqb a a refl)) in
+    let none : 2 ^ a - 2 ^ a ≡ 0 = omega arith in
+    let count = ap ones none in
+    ap ones (alone-is a h) ∙ omega (arith, ones-le 0 0 (omega arith))
+
 -- an option that was taken out is put back
 pub put-back : (w a : ℕ) → w < 2 ^ option-limit → T (has w a) → set-with (set-without w a) a ≡ w
 put-back w a h t =
-    let out : set-without w a ≡ w - 2 ^ a = cond-true (has w a) (w - 2 ^ a) w (yes-T (has w a) t) in
+    let out : set-without w a ≡ w - 2 ^ a = without-is w a t in
     let gone : has (w - 2 ^ a) a ≡ false =
     has-less w a a t ∙ ap (λ e. has w a && not e) (eq-eqb a a refl) ∙ and-false (has w a) in
     let within : a < option-limit = ⊎-elim (λ (l : a < option-limit). l) (λ (l : option-limit ≤ a). absurd (T-no (has w a) (has-none option-limit w a h l) t)) (cases-lt a option-limit) in
