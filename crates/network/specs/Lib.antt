@@ -1,2 +1,4 @@
 pub mod Network
 pub mod Kinds
+pub mod Sides
+pub mod Sets

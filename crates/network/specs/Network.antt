@@ -19,6 +19,10 @@ field-limit = 16
 abbrev pub rule-limit : ℕ
 rule-limit = 128
 
+-- stands for a field where there is none
+abbrev pub no-field : ℕ
+no-field = 255
+
 -- whether option a is in the set w: bit a of the word, counted from the lowest
 abbrev pub has : ℕ → ℕ → Bool
 has w a = eqb ((w / 2 ^ a) % 2) 1
@@ -47,7 +51,7 @@ Within p q = (x a : ℕ) → T (p x a) → T (q x a)
 
 -- what stands for a rule that is not in a list
 abbrev pub no-rule : Rule
-no-rule = record { left = 255; right = 255; allows = λ _ _. false }
+no-rule = record { left = no-field; right = no-field; allows = λ _ _. false }
 
 -- rule r of a list, numbered from 0
 abbrev pub rule-at : List Rule → ℕ → Rule

@@ -1,0 +1,4 @@
+pub mod Truth
+pub mod Bits
+pub mod Masks
+pub mod Words
