@@ -9,14 +9,11 @@ ghost use Rattle.agenda.specs.Waiting.{number-limit, Same};
 ghost use Rattle.agenda.specs.Jobs.{arc-number, arc-of, arc-fits, probe-number, probe-of, probe-fits, put-job, Job-taken};
 use crate::agenda::Agenda;
 use network::options::OPTIONS;
+use network::rules::FIELDS;
+use network::rules::RULES;
 use network::rules::Side;
 use network::rules::SideDebug;
 use network::rules::SidePartialEq;
-
-// How many rules and fields there can be.
-const RULES: u8 = 128;
-
-const FIELDS: u8 = 16;
 
 // A kind of job: of work that can wait on an agenda. Every number below the kind's limit stands for one job, whose
 // number it is, and every job that fits the kind has such a number.

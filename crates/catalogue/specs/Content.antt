@@ -46,7 +46,7 @@ no-option = record { word = 0 }
 
 -- the two ends are one, or one of them is above 15
 abbrev pub unfit-ends : ℕ → ℕ → Bool
-unfit-ends left right = eqb left right || (ltb 15 left || ltb 15 right)
+unfit-ends left right = eqb left right || (leb field-limit left || leb field-limit right)
 
 abbrev pub unknown : Kind → Bool
 unknown Equal = false

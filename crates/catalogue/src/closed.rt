@@ -3,10 +3,10 @@
 ghost use mathlib.Core.Path.{_≡_};
 ghost use Rattle.catalogue.specs.View.{content};
 use crate::preparation::Preparation;
+use books::formula::FormulaBook;
+use books::table::TableBook;
 use faults::EngineFault;
 use network::options::OptionSet;
-use network::rules::Ends;
-use network::rules::FormulaRule;
 
 // A catalogue that can be read and takes no more entries.
 #[derive(Drop)]
@@ -29,23 +29,21 @@ impl Closed<'_> {
         self.catalogue.sets.as_slice()
     }
 
-    // The ends of each table rule.
-    pub fn table_ends(&self) -> &[Ends]
-        ensures { λ s. ⌜ now s ≡ content (now (self .entry) .catalogue) .ends .entered ⌝ }
+    // The book of the table rules.
+    pub fn table_book(&self) -> TableBook<'_>
+        ensures ends { λ b. ⌜ now (b .ends) ≡ content (now (self .entry) .catalogue) .ends .entered ⌝ }
+        ensures rows { λ b. ⌜ now (b .rows) ≡ content (now (self .entry) .catalogue) .rows .entered ⌝ }
     {
-        self.catalogue.ends.as_slice()
+        TableBook::new(
+            self.catalogue.ends.as_slice(),
+            self.catalogue.rows.as_slice(),
+        )
     }
 
-    // The rows of the table rules, 32 each.
-    pub fn table_rows(&self) -> &[OptionSet]
-        ensures { λ s. ⌜ now s ≡ content (now (self .entry) .catalogue) .rows .entered ⌝ }
+    // The book of the formula rules.
+    pub fn formula_book(&self) -> FormulaBook<'_>
+        ensures { λ b. ⌜ now (b .rules) ≡ content (now (self .entry) .catalogue) .formulas .entered ⌝ }
     {
-        self.catalogue.rows.as_slice()
-    }
-
-    pub fn formulas(&self) -> &[FormulaRule]
-        ensures { λ s. ⌜ now s ≡ content (now (self .entry) .catalogue) .formulas .entered ⌝ }
-    {
-        self.catalogue.formulas.as_slice()
+        FormulaBook::new(self.catalogue.formulas.as_slice())
     }
 }

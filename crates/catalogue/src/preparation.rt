@@ -13,14 +13,11 @@ use faults::EngineFault;
 use network::options::OPTIONS;
 use network::options::OptionSet;
 use network::rules::Ends;
+use network::rules::FIELDS;
 use network::rules::FormulaRule;
 use network::rules::Kind;
 use network::rules::KindPartialEq;
-
-// The most fields, and the most rules of both forms together.
-pub const FIELDS: usize = 16;
-
-pub const RULES: usize = 128;
+use network::rules::RULES;
 
 // Fields and rules that are being entered, in lent memory: a set for each field, two ends and 32 rows for each
 // table rule, a record for each formula rule.
@@ -36,7 +33,7 @@ pub struct Preparation<'a> {
 fn unfit(left: u8, right: u8) -> bool
     ensures { λ y. ⌜ y ≡ unfit-ends left right ⌝ }
 {
-    left == right || left > 15 || right > 15
+    left == right || left >= FIELDS || right >= FIELDS
 }
 
 fn unfit_formula(rule: FormulaRule) -> bool
@@ -70,13 +67,13 @@ impl<'a> Preparation<'a> {
     fn rules_full(&self) -> bool
         ensures { λ y. ⌜ y ≡ leb rule-limit (rule-count (content (now (self .entry)))) ⌝ }
     {
-        self.ends.len().saturating_add(self.formulas.len()) >= RULES
+        self.ends.len().saturating_add(self.formulas.len()) >= RULES as usize
     }
 
     fn fields_full(&self) -> bool
         ensures { λ y. ⌜ y ≡ fields-full (content (now (self .entry))) ⌝ }
     {
-        (self.sets.len() >= FIELDS) | (self.sets.room() == 0)
+        (self.sets.len() >= FIELDS as usize) | (self.sets.room() == 0)
     }
 
     fn tables_full(&self) -> bool
@@ -118,7 +115,7 @@ impl<'a> Preparation<'a> {
             return Err(EngineFault::Full);
         }
         let _ = self.ends.push(ends);
-        let _ = self.rows.extend(OPTIONS as usize, OptionSet::from_word(0));
+        let _ = self.rows.extend(OPTIONS as usize, OptionSet::empty());
         Ok(())
     }
 

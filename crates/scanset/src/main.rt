@@ -1,14 +1,14 @@
 // The program: lines from standard input, an answer line for each to standard output.
 
-use catalogue::preparation::FIELDS;
 use catalogue::preparation::Preparation;
-use catalogue::preparation::RULES;
 use frames::lines::LINE_BYTES;
 use network::options::OPTIONS;
 use network::options::OptionSet;
 use network::rules::Ends;
+use network::rules::FIELDS;
 use network::rules::FormulaRule;
 use network::rules::Kind;
+use network::rules::RULES;
 use session::session::Session;
 use session::stream::Stream;
 use std::alloc::Global;
@@ -74,10 +74,10 @@ fn run(rt: &LibcRuntime) -> Result<(), AnyError> {
         kind: Kind::Unknown,
         difference: 0,
     };
-    let mut sets = vec![in heap; OptionSet::from_word(0); FIELDS]?;
-    let mut ends = vec![in heap; Ends { left: 0, right: 0 }; RULES]?;
-    let mut rows = vec![in heap; OptionSet::from_word(0); RULES * OPTIONS as usize]?;
-    let mut formulas = vec![in heap; formula; RULES]?;
+    let mut sets = vec![in heap; OptionSet::empty(); FIELDS as usize]?;
+    let mut ends = vec![in heap; Ends { left: 0, right: 0 }; RULES as usize]?;
+    let mut rows = vec![in heap; OptionSet::empty(); RULES as usize * OPTIONS as usize]?;
+    let mut formulas = vec![in heap; formula; RULES as usize]?;
     let catalogue = Preparation::new(
         sets.as_mut_slice(),
         ends.as_mut_slice(),

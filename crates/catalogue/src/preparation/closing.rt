@@ -10,13 +10,13 @@ ghost use Rattle.catalogue.specs.Content.{any, no-fields, rule-count, closing-
 ghost use Rattle.catalogue.specs.View.{content};
 use crate::closed::Closed;
 use crate::closed::Refused;
-use crate::preparation::FIELDS;
 use crate::preparation::Preparation;
-use crate::preparation::RULES;
 use faults::EngineFault;
 use network::options::OptionSet;
 use network::rules::Ends;
+use network::rules::FIELDS;
 use network::rules::FormulaRule;
+use network::rules::RULES;
 
 // Whether some field has no option.
 fn any_empty(sets: &[OptionSet]) -> bool
@@ -65,13 +65,13 @@ impl<'a> Preparation<'a> {
         ensures { λ o. ⌜ o ≡ closing-refusal (content (now (self .entry))) ⌝ }
     {
         let fields = self.sets.len();
-        if fields == 0 || fields > FIELDS {
+        if fields == 0 || fields > FIELDS as usize {
             return Some(EngineFault::FieldCount);
         }
         if any_empty(self.sets.as_slice()) {
             return Some(EngineFault::EmptySet);
         }
-        if self.ends.len().saturating_add(self.formulas.len()) > RULES {
+        if self.ends.len().saturating_add(self.formulas.len()) > RULES as usize {
             return Some(EngineFault::RuleCount);
         }
         if any_unfit_table(fields, self.ends.as_slice())

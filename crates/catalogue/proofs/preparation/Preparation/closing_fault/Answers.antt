@@ -19,7 +19,7 @@ returns c =
     let formulas : any (λ f. no-fields (length (k .sets .entered)) (f .left) (f .right)) (k .formulas .entered) ≡ false =
     ap (λ m. any (λ f. no-fields m (f .left) (f .right)) (k .formulas .entered)) (sym n)
     ∙ ap (any (λ f. no-fields (c .len-fields .result) (f .left) (f .right))) (sym (c .as-slice-else-any-unfit-table .ensures)) ∙ sym (c .if-any-unfit-formula .ensures tt) in
-    sym (closes k (λ e. c .if-fields-eq0 .left (n ∙ e)) (omega (arith, c .if-fields-gt-FIELDS .left))
+    sym (closes k (λ e. c .if-fields-eq0 .left (n ∙ e)) (omega (arith, c .if-fields .left))
     (ap (any (λ s. eqb (s .word) 0)) (sym (c .as-slice .ensures)) ∙ sym (c .if-any-empty .ensures tt))
-    (omega (arith, c .if-saturating-add-gt-RULES .left, c .saturating-add .ensures, c .len .ensures, c .len-2 .ensures))
+    (omega (arith, c .if-saturating-add .left, c .saturating-add .ensures, c .len .ensures, c .len-2 .ensures))
     tables formulas)
