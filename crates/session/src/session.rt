@@ -119,7 +119,7 @@ impl<'a> Session<'a> {
     pub fn step(&mut self, line: &[u8]) -> Option<Result<Answer, Refusal>>
         ensures { λ o. ⌜ Stepped (state (now (self .entry))) (now (line .entry)) o (state (now (self .exit))) ⌝ }
     {
-        if self.lines == u16::MAX {
+        if self.is_over() {
             return None;
         }
         self.lines += 1;
