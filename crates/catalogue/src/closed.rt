@@ -21,7 +21,7 @@ pub struct Refused<'a> {
     pub fault: EngineFault,
 }
 
-impl Closed<'_> {
+impl<'a> Closed<'a> {
     // The set of each field.
     pub fn sets(&self) -> &[OptionSet]
         ensures { λ s. ⌜ now s ≡ content (now (self .entry) .catalogue) .sets .entered ⌝ }
@@ -45,5 +45,26 @@ impl Closed<'_> {
         ensures { λ b. ⌜ now (b .rules) ≡ content (now (self .entry) .catalogue) .formulas .entered ⌝ }
     {
         FormulaBook::new(self.catalogue.formulas.as_slice())
+    }
+
+    // The sets and both books, for as long as the memory is lent. The catalogue is used up.
+    pub fn into_books(self) -> (&'a [OptionSet], TableBook<'a>, FormulaBook<'a>)
+        ensures sets { λ r. ⌜ now (r .0) ≡ content (self .entry .catalogue) .sets .entered ⌝ }
+        ensures ends { λ r. ⌜ now (r .1 .ends) ≡ content (self .entry .catalogue) .ends .entered ⌝ }
+        ensures rows { λ r. ⌜ now (r .1 .rows) ≡ content (self .entry .catalogue) .rows .entered ⌝ }
+        ensures formulas { λ r. ⌜ now (r .2 .rules) ≡ content (self .entry .catalogue) .formulas .entered ⌝ }
+    {
+        let Closed { catalogue } = self;
+        let Preparation {
+            sets,
+            ends,
+            rows,
+            formulas,
+        } = catalogue;
+        (
+            sets.into_slice(),
+            TableBook::new(ends.into_slice(), rows.into_slice()),
+            FormulaBook::new(formulas.into_slice()),
+        )
     }
 }

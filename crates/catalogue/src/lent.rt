@@ -44,6 +44,15 @@ impl<'a, T: Copy> LentVec<'a, T> {
         &self.places[0..n]
     }
 
+    // What is entered, for as long as the places are lent; nothing can be entered any more.
+    pub fn into_slice(self) -> &'a [T]
+        ensures { λ s. ⌜ now s ≡ held (self .entry) .entered ⌝ }
+    {
+        let n = self.len();
+        let LentVec { places, filled: _ } = self;
+        &places[0..n]
+    }
+
     // Enters a value in the first free place; no where there is none.
     pub fn push(&mut self, value: T) -> bool
         ensures answer { λ y. ⌜ y ≡ ltb 0 (length (held (now (self .entry)) .free)) ⌝ }
