@@ -1,0 +1,5 @@
+mod Searches
+mod Asking
+pub mod Openings
+pub mod Strikes
+pub mod Undoing
