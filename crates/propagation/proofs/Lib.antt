@@ -3,3 +3,6 @@ mod Asking
 pub mod Openings
 pub mod Strikes
 pub mod Undoing
+pub mod Steps
+mod Puts
+pub mod Ends

@@ -4,6 +4,9 @@
 // Striking what has no partner:             propagate::propagate
 // Putting struck options back:              undo::put_back
 // What is written down of it:               record::Strike, record::Cause, record::Decision, record::WipedOut
+mod arcs;
 pub mod opening;
+pub mod propagate;
 pub mod record;
+mod revise;
 pub mod undo;
