@@ -1,2 +1,7 @@
 pub mod Strikes
 pub mod Opening
+pub mod Refusals
+pub mod Undo
+pub mod Arcs
+pub mod Progress
+pub mod Turns

@@ -1,4 +1,12 @@
 // Propagation: striking options until the largest arc-consistent part is left.
 //
-// What is written down of it:   record::Strike, record::Cause, record::Decision, record::WipedOut
+// Whether sets can be opened over a book:   opening::check_opening
+// Striking what has no partner:             propagate::propagate
+// Putting struck options back:              undo::put_back
+// What is written down of it:               record::Strike, record::Cause, record::Decision, record::WipedOut
+mod arcs;
+pub mod opening;
+pub mod propagate;
 pub mod record;
+mod revise;
+pub mod undo;

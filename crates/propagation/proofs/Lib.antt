@@ -1,0 +1,8 @@
+mod Searches
+mod Asking
+pub mod Openings
+pub mod Strikes
+pub mod Undoing
+pub mod Steps
+mod Puts
+pub mod Ends
