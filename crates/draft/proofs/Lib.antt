@@ -1,0 +1,5 @@
+pub mod Sets
+pub mod Strikes
+pub mod Choosing
+pub mod Ledger
+pub mod Laws
