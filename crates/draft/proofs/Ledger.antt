@@ -10,7 +10,7 @@ use lib.Dec.{eqb, ltb, T, eqb→eq}
 use Rattle.std.specs.declared.option.Option.{Option}
 use Rattle.std.specs.declared.option.Option.the-variants.{Some, None}
 use Rattle.std.proofs.shelf.Bits.{pow-below, pow-pos}
-use Rattle.std.proofs.shelf.Lists.{length-set, length-append, length-push, getD-set-same, getD-set-other, getD-push, take-append-le, take-at, map-append}
+use Rattle.std.proofs.shelf.Lists.{length-append, length-push, getD-push, take-append-le, take-at, map-append}
 use Rattle.std.proofs.shelf.Tests.{ne-eqb, eq-eqb, eqb-false, ltb-true, cases-eq, and-parts, not-false}
 use Rattle.faults.specs.declared.EngineFault.{EngineFault}
 use Rattle.faults.specs.declared.EngineFault.the-variants.{OutOfRange, NotStanding, LastOption, NoDecision}
@@ -29,7 +29,7 @@ use Rattle.draft.specs.declared.types.Call.{Call}
 use Rattle.draft.specs.declared.types.Call.the-variants as call
 use Rattle.draft.specs.declared.types.Answer.{Answer}
 use Rattle.draft.specs.declared.types.Answer.the-variants.{Refused}
-use Rattle.draft.proofs.Sets.{field-within, part-same, part-other, part-without, fit-set, fit-without}
+use Rattle.draft.proofs.Sets.{field-within, part-same, part-other, part-without, fit-set, fit-without, filled-set}
 use Rattle.draft.proofs.Strikes.{struck-left, struck-fit, struck-append, struck-more, in-force-more}
 use Rattle.draft.proofs.Choosing.{choose-struck}
 
@@ -180,10 +180,7 @@ module _ (rules : List Rule) (opening : List ℕ) where
             (subst T (ap (λ v. cond v (eqb b a) true) (eq-eqb y x e)) let-stand))
             (λ n. subst T (sym (part-other (s .standing) x (2 ^ a) y b n)) stood)
             (cases-eq y x);
-        filled = λ y l. ⊎-elim
-            (λ e. subst (λ n. 0 < n) (sym (ap (λ z. getD (set (s .standing) x (2 ^ a)) z 0) e ∙ getD-set-same (s .standing) x (2 ^ a) 0 within)) (pow-pos a))
-            (λ n. subst (λ m. 0 < m) (sym (getD-set-other (s .standing) x y (2 ^ a) 0 n)) (g .filled y (simp length-set at l)))
-            (cases-eq y x);
+        filled = filled-set (s .standing) x (2 ^ a) (g .filled) (pow-pos a);
         fit = fit-set (s .standing) x (2 ^ a) (2 ^ option-limit) (g .fit) (pow-below a option-limit small);
       }
 
@@ -203,11 +200,7 @@ module _ (rules : List Rule) (opening : List ℕ) where
         whole = λ p ac w y b k.
             subst T (sym (part-without (s .standing) x a y b here))
             (and-T _ _ (g .whole p ac (λ z c j. under-less (s .opening) (s .taken) t z c (w z c j)) y b k) (under-new (s .opening) (s .taken) t y b (w y b k)));
-        filled = λ y l. ⊎-elim
-            (λ e. subst (λ n. 0 < n) (sym (ap (λ z. getD (without (s .standing) x a) z 0) e ∙ getD-set-same (s .standing) x _ 0 within))
-            (let h = has-le (getD (s .standing) x 0) a here in omega arith))
-            (λ n. subst (λ m. 0 < m) (sym (getD-set-other (s .standing) x y _ 0 n)) (g .filled y (simp length-set at l)))
-            (cases-eq y x);
+        filled = filled-set (s .standing) x _ (g .filled) (let h = has-le (getD (s .standing) x 0) a here in omega arith);
         fit = fit-without (s .standing) x a (2 ^ option-limit) (g .fit);
       }
 

@@ -54,6 +54,15 @@ fit-set sets x v k f h y =
 pub fit-without : (sets : List ℕ) (x a k : ℕ) → ((y : ℕ) → getD sets y 0 < k) → (y : ℕ) → getD (without sets x a) y 0 < k
 fit-without sets x a k f = fit-set sets x (getD sets x 0 - 2 ^ a) k f (let h = f x in omega arith)
 
+-- a set that is not empty put among such sets
+pub filled-set : (sets : List ℕ) (x v : ℕ) → ((y : ℕ) → y < length sets → 0 < getD sets y 0) → 0 < v → (y : ℕ) → y < length (set sets x v) → 0 < getD (set sets x v) y 0
+filled-set sets x v f h y l =
+    let long = length-set sets x v in
+    ⊎-elim
+    (λ e. subst (λ n. 0 < n) (sym (ap (λ z. getD (set sets x v) z 0) e ∙ getD-set-same sets x v 0 (omega arith))) h)
+    (λ n. subst (λ m. 0 < m) (sym (getD-set-other sets x y v 0 n)) (f y (omega arith)))
+    (cases-eq y x)
+
 -- an option that is struck is gone
 pub not-there : (sets : List ℕ) (x a : ℕ) → T (part sets x a) → T (part (without sets x a) x a) → ⊥
 not-there sets x a t s =
