@@ -1,0 +1,4 @@
+pub mod Draft
+pub mod Law
+pub mod Sound
+pub mod View
