@@ -1,0 +1,5 @@
+pub mod Sets
+pub mod Theory
+pub mod Probing
+pub mod PairWords
+pub mod TightChecks
