@@ -6,3 +6,4 @@ pub mod Undoing
 pub mod Steps
 mod Puts
 pub mod Ends
+mod Deciding

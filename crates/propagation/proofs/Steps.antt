@@ -75,7 +75,7 @@ module _ {Z : Type 0} (rules : List Rule) where
           | inr some ↦ omega (arith, counted rules [] (p .found) s s′ (p .struck []))
         ]
 
-unsupported-by : (rules : List Rule) (p : Part) (side : Side) (r a : ℕ) → (Supported rules p side r a → ⊥) → Unsupported-at rules p side r (own rules side r) a
+pub unsupported-by : (rules : List Rule) (p : Part) (side : Side) (r a : ℕ) → (Supported rules p side r a → ⊥) → Unsupported-at rules p side r (own rules side r) a
 unsupported-by rules p Left r a none = (refl, λ b t k. none (b, (t, k)))
 unsupported-by rules p Right r a none = (refl, λ b t k. none (b, (t, k)))
 

@@ -5,3 +5,4 @@ pub mod Undo
 pub mod Arcs
 pub mod Progress
 pub mod Turns
+pub mod Examples
