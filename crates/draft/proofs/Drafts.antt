@@ -18,12 +18,14 @@ use Rattle.network.proofs.Bits.{has-le}
 use Rattle.network.proofs.Masks.{without-is}
 use Rattle.network.proofs.Words.{length-words, word-of}
 use Rattle.propagation.specs.Strikes.{left-by, Struck}
+use Rattle.propagation.specs.Opening.{Accepted}
 use Rattle.propagation.specs.declared.record.Decision.{Decision}
 use Rattle.propagation.specs.declared.record.Decision.the-variants as decision
 use Rattle.propagation.specs.declared.record.Strike.{Strike}
 use Rattle.draft.specs.Draft.{Step, decision-limit, choose-strikes, latest-mark, no-decision}
 use Rattle.draft.specs.Sound.{Fit, Filled, stood, rising, put-all, record-limit}
-use Rattle.draft.specs.View.{view, Answers}
+use Rattle.draft.specs.View.{view, Answers, Ready}
+use Rattle.draft.specs.declared.draft.opens.Memory.{Memory}
 use Rattle.draft.specs.declared.draft.Draft.{Draft}
 use Rattle.draft.specs.declared.types.Taken.{Taken}
 use Rattle.draft.specs.declared.types.Call.{Call}
@@ -46,6 +48,37 @@ Kept accepted fields opening standing strikes marks room taken decisions places 
     ((accepted ≡ true → rising taken marks ≡ true) ×
     ((accepted ≡ true → record-limit ≤ room) ×
     ((accepted ≡ true → decision-limit ≤ places) × Unit {0})))))))))
+
+-- a new draft
+pub fresh : (accepted : Bool) (rules : List Rule) (sets : List OptionSet) → (accepted ≡ true → Accepted rules (words sets)) → (m : Memory) → Ready sets m →
+    Kept accepted (vec-len (m .opening)) (words (vec-items (m .opening))) (words (vec-items (m .standing))) (vec-items (m .strikes)) (vec-len (m .strikes)) (vec-cap (m .strikes)) (vec-items (m .taken)) (vec-len (m .taken)) (vec-cap (m .taken))
+fresh accepted rules sets ok m r =
+    let long : vec-len (m .opening) ≡ length (words sets) = m .opening .ok .0 ∙ ap length (r .opening) ∙ sym (length-words sets) in
+    let first = ap words (r .opening) in
+    let same = ap words (r .standing) in
+    let untouched : words (vec-items (m .standing)) ≡ left-by (words (vec-items (m .opening))) (vec-items (m .strikes)) =
+    same ∙ sym (ap (λ ss. left-by (words (vec-items (m .opening))) ss) (r .strikes) ∙ first) in (
+      (λ h. let l = ok h .some in omega arith),
+      (
+        (λ h. let l = ok h .few in omega arith),
+        (
+          (λ h. subst Fit (sym first) (ok h .fit)),
+          (
+            (λ h. subst Filled (sym same) (ok h .filled)),
+            (
+              (λ _. untouched),
+              (
+                (λ _. ap (λ ss. stood (words (vec-items (m .opening))) ss) (r .strikes)),
+                (
+                  (λ _. omega (arith, m .taken .ok .0, ap length (r .taken))),
+                  ((λ _. ap (λ ts. rising ts (vec-len (m .strikes))) (r .taken)), ((λ _. r .room), ((λ _. r .places), tt))),
+                ),
+              ),
+            ),
+          ),
+        ),
+      ),
+    )
 
 module _ {B W : Type 0} (d : Draft B W) (h : d .accepted ≡ true) where
   abbrev opening : List ℕ
