@@ -2,6 +2,7 @@
 use Prim.Native.Nat.{ℕ, _+_, _-_, _^_, _<_, _≤_}
 use mathlib.Core.Bool.{Bool, true, false, _&&_}
 use mathlib.Core.Path.{_≡_, refl, sym, ap, _∙_, subst}
+use mathlib.Core.Logic.{⊎-elim}
 use mathlib.Core.List.{List, [], _∷_, _++_}
 use native.Mathlib.Omega.{arith}
 use lib.Dec.{leb, eqb}
@@ -9,7 +10,7 @@ use lib.ListN.{length, getD, set, take, drop}
 use Rattle.std.specs.Of.Vec.{vec-items, vec-len, vec-cap}
 use Rattle.std.proofs.shelf.Bits.{pow-pos}
 use Rattle.std.proofs.shelf.Lists.{length-append, getD-read}
-use Rattle.std.proofs.shelf.Tests.{and-from, both-ways, le-leb, eqb-true, eqb-false}
+use Rattle.std.proofs.shelf.Tests.{cases-bool, and-from, both-ways, le-leb, eqb-true, eqb-false}
 use Rattle.network.specs.Network.{field-limit, Rule, has, part, words}
 use Rattle.network.specs.declared.options.OptionSet.{OptionSet}
 use Rattle.network.specs.Sets.{set-without}
@@ -23,6 +24,7 @@ use Rattle.propagation.specs.declared.record.Decision.{Decision}
 use Rattle.propagation.specs.declared.record.Decision.the-variants as decision
 use Rattle.propagation.specs.declared.record.Strike.{Strike}
 use Rattle.draft.specs.Draft.{Step, decision-limit, choose-strikes, latest-mark, no-decision}
+use Rattle.draft.specs.Law.{Keeps-the-law}
 use Rattle.draft.specs.Sound.{Fit, Filled, stood, rising, put-all, record-limit}
 use Rattle.draft.specs.View.{view, Answers, Ready}
 use Rattle.draft.specs.declared.draft.opens.Memory.{Memory}
@@ -33,6 +35,7 @@ use Rattle.draft.specs.declared.types.Answer.{Answer}
 use Rattle.draft.proofs.Sets.{filled-set}
 use Rattle.draft.proofs.Strikes.{struck-left}
 use Rattle.draft.proofs.Choosing.{choose-struck}
+use Rattle.draft.proofs.Laws.{step-keeps-the-law, same-keeps-the-law}
 use Rattle.draft.proofs.Records.{struck-all-stood, length-left-by, fit-left-by, left-by-append, stood-append, record-bound, rising-push, rising-drop, put-back-cut, stood-front, filled-front}
 
 -- the ghost fields of a draft, as a function that changes one owes them
@@ -48,6 +51,14 @@ Kept accepted fields opening standing strikes marks room taken decisions places 
     ((accepted ≡ true → rising taken marks ≡ true) ×
     ((accepted ≡ true → record-limit ≤ room) ×
     ((accepted ≡ true → decision-limit ≤ places) × Unit {0})))))))))
+
+-- whatever a draft answers, it keeps the law
+pub answers-keep-the-law : {B W : Type 0} (rules : List Rule) (d : Draft B W) (c : Call) (answer : Answer) (d′ : Draft B W) → Answers rules d c answer d′ → Keeps-the-law rules (view d) (view d′)
+answers-keep-the-law rules d c answer d′ a =
+    ⊎-elim
+    (λ (open′ : d .accepted ≡ true). step-keeps-the-law rules (view d) c answer (view d′) (a .step open′))
+    (λ (shut : d .accepted ≡ false). same-keeps-the-law rules (view d) (view d′) (a .shut shut .1))
+    (cases-bool (d .accepted))
 
 -- a new draft
 pub fresh : (accepted : Bool) (rules : List Rule) (sets : List OptionSet) → (accepted ≡ true → Accepted rules (words sets)) → (m : Memory) → Ready sets m →
