@@ -2,6 +2,7 @@
 use Prim.Native.Nat.{ℕ, _+_, _-_, _^_, _<_, _≤_}
 use mathlib.Core.Bool.{Bool, true, false, _&&_}
 use mathlib.Core.Path.{_≡_, refl, sym, ap, _∙_, subst}
+use mathlib.Core.Logic.{⊎-elim}
 use mathlib.Core.List.{List, [], _∷_, _++_}
 use native.Mathlib.Omega.{arith}
 use lib.Dec.{leb, eqb}
@@ -9,7 +10,7 @@ use lib.ListN.{length, getD, set, take, drop}
 use Rattle.std.specs.Of.Vec.{vec-items, vec-len, vec-cap}
 use Rattle.std.proofs.shelf.Bits.{pow-pos}
 use Rattle.std.proofs.shelf.Lists.{length-append, getD-read}
-use Rattle.std.proofs.shelf.Tests.{and-from, both-ways, le-leb, eqb-true, eqb-false}
+use Rattle.std.proofs.shelf.Tests.{cases-bool, and-from, both-ways, le-leb, eqb-true, eqb-false}
 use Rattle.network.specs.Network.{field-limit, Rule, has, part, words}
 use Rattle.network.specs.declared.options.OptionSet.{OptionSet}
 use Rattle.network.specs.Sets.{set-without}
@@ -18,12 +19,15 @@ use Rattle.network.proofs.Bits.{has-le}
 use Rattle.network.proofs.Masks.{without-is}
 use Rattle.network.proofs.Words.{length-words, word-of}
 use Rattle.propagation.specs.Strikes.{left-by, Struck}
+use Rattle.propagation.specs.Opening.{Accepted}
 use Rattle.propagation.specs.declared.record.Decision.{Decision}
 use Rattle.propagation.specs.declared.record.Decision.the-variants as decision
 use Rattle.propagation.specs.declared.record.Strike.{Strike}
 use Rattle.draft.specs.Draft.{Step, decision-limit, choose-strikes, latest-mark, no-decision}
+use Rattle.draft.specs.Law.{Keeps-the-law}
 use Rattle.draft.specs.Sound.{Fit, Filled, stood, rising, put-all, record-limit}
-use Rattle.draft.specs.View.{view, Answers}
+use Rattle.draft.specs.View.{view, Answers, Ready}
+use Rattle.draft.specs.declared.draft.opens.Memory.{Memory}
 use Rattle.draft.specs.declared.draft.Draft.{Draft}
 use Rattle.draft.specs.declared.types.Taken.{Taken}
 use Rattle.draft.specs.declared.types.Call.{Call}
@@ -31,6 +35,7 @@ use Rattle.draft.specs.declared.types.Answer.{Answer}
 use Rattle.draft.proofs.Sets.{filled-set}
 use Rattle.draft.proofs.Strikes.{struck-left}
 use Rattle.draft.proofs.Choosing.{choose-struck}
+use Rattle.draft.proofs.Laws.{step-keeps-the-law, same-keeps-the-law}
 use Rattle.draft.proofs.Records.{struck-all-stood, length-left-by, fit-left-by, left-by-append, stood-append, record-bound, rising-push, rising-drop, put-back-cut, stood-front, filled-front}
 
 -- the ghost fields of a draft, as a function that changes one owes them
@@ -46,6 +51,45 @@ Kept accepted fields opening standing strikes marks room taken decisions places 
     ((accepted ≡ true → rising taken marks ≡ true) ×
     ((accepted ≡ true → record-limit ≤ room) ×
     ((accepted ≡ true → decision-limit ≤ places) × Unit {0})))))))))
+
+-- whatever a draft answers, it keeps the law
+pub answers-keep-the-law : {B W : Type 0} (rules : List Rule) (d : Draft B W) (c : Call) (answer : Answer) (d′ : Draft B W) → Answers rules d c answer d′ → Keeps-the-law rules (view d) (view d′)
+answers-keep-the-law rules d c answer d′ a =
+    ⊎-elim
+    (λ (open′ : d .accepted ≡ true). step-keeps-the-law rules (view d) c answer (view d′) (a .step open′))
+    (λ (shut : d .accepted ≡ false). same-keeps-the-law rules (view d) (view d′) (a .shut shut .1))
+    (cases-bool (d .accepted))
+
+-- a new draft
+pub fresh : (accepted : Bool) (rules : List Rule) (sets : List OptionSet) → (accepted ≡ true → Accepted rules (words sets)) → (m : Memory) → Ready sets m →
+    Kept accepted (vec-len (m .opening)) (words (vec-items (m .opening))) (words (vec-items (m .standing))) (vec-items (m .strikes)) (vec-len (m .strikes)) (vec-cap (m .strikes)) (vec-items (m .taken)) (vec-len (m .taken)) (vec-cap (m .taken))
+fresh accepted rules sets ok m r =
+    let long : vec-len (m .opening) ≡ length (words sets) = m .opening .ok .0 ∙ ap length (r .opening) ∙ sym (length-words sets) in
+    let first = ap words (r .opening) in
+    let same = ap words (r .standing) in
+    let untouched : words (vec-items (m .standing)) ≡ left-by (words (vec-items (m .opening))) (vec-items (m .strikes)) =
+    same ∙ sym (ap (λ ss. left-by (words (vec-items (m .opening))) ss) (r .strikes) ∙ first) in (
+      (λ h. let l = ok h .some in omega arith),
+      (
+        (λ h. let l = ok h .few in omega arith),
+        (
+          (λ h. subst Fit (sym first) (ok h .fit)),
+          (
+            (λ h. subst Filled (sym same) (ok h .filled)),
+            (
+              (λ _. untouched),
+              (
+                (λ _. ap (λ ss. stood (words (vec-items (m .opening))) ss) (r .strikes)),
+                (
+                  (λ _. omega (arith, m .taken .ok .0, ap length (r .taken))),
+                  ((λ _. ap (λ ts. rising ts (vec-len (m .strikes))) (r .taken)), ((λ _. r .room), ((λ _. r .places), tt))),
+                ),
+              ),
+            ),
+          ),
+        ),
+      ),
+    )
 
 module _ {B W : Type 0} (d : Draft B W) (h : d .accepted ≡ true) where
   abbrev opening : List ℕ

@@ -15,9 +15,10 @@ use Rattle.network.proofs.Bits.{some-bit}
 use Rattle.propagation.specs.Strikes.{permits, options, In-force}
 use Rattle.propagation.specs.Opening.{Accepted, Emptied, Wiped-out, Blamed}
 use Rattle.propagation.specs.declared.record.Decision.{Decision}
-use Rattle.draft.specs.Draft.{State, Event, Run, Settles, opened, decisions, allowed-by, permitted, Admissible}
+use Rattle.draft.specs.Draft.{State, Event, Run, Step, Settles, opened, decisions, allowed-by, permitted, Admissible}
 use Rattle.draft.specs.Draft.Settles.{done, wiped, unfit}
-use Rattle.draft.specs.Law.{Balanced, Counts, Tells-wiped-out, Settles-exactly, At-least-as-loose, Shows-no-less, Lawful, Law}
+use Rattle.draft.specs.Law.{Balanced, Counts, Tells-wiped-out, Settles-exactly, At-least-as-loose, Shows-no-less, Lawful, Law, Keeps-the-law, Lawful-run}
+use Rattle.draft.specs.declared.types.Call.{Call}
 use Rattle.draft.specs.declared.types.Answer.{Answer}
 use Rattle.draft.specs.declared.types.Answer.the-variants.{Settled, Refused}
 use Rattle.draft.proofs.Strikes.{struck-options, struck-once, struck-gone, struck-caused, struck-length, struck-fit}
@@ -260,3 +261,15 @@ lawful rules opening ok h s run =
 pub law : Law
 law rules opening ok [] last run = lawful rules opening ok [] last run
 law rules opening ok (e ∷ before) last run = (lawful rules opening ok (e ∷ before) last run, law rules opening ok before (run .0) (run .1 .0))
+
+pub lawful-run : (rules : List Rule) (opening : List ℕ) → Accepted rules opening → (h : List Event) (last : State) → Run rules (opened opening) h last → Lawful-run rules opening h last
+lawful-run rules opening ok h last run = (run, law rules opening ok h last run)
+
+-- a call that is made, and one that changes nothing
+pub step-keeps-the-law : (rules : List Rule) (s : State) (c : Call) (answer : Answer) (s′ : State) → Step rules s c answer s′ → Keeps-the-law rules s s′
+step-keeps-the-law rules s c answer s′ step opening ok h run =
+    (lawful rules opening ok h s run, lawful rules opening ok (record { asked = c; answered = answer } ∷ h) s′ (s, (run, step)))
+
+pub same-keeps-the-law : (rules : List Rule) (s s′ : State) → s′ ≡ s → Keeps-the-law rules s s′
+same-keeps-the-law rules s s′ same opening ok h run =
+    let l = lawful rules opening ok h s run in (l, subst (Lawful rules opening) (sym same) l)

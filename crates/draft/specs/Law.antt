@@ -88,3 +88,13 @@ abbrev pub Law : Type 0
 Law =
     (rules : List Rule) (opening : List ℕ) → Accepted rules opening → (h : List Event) (last : State) (run : Run rules (opened opening) h last) →
     At-each-point (Lawful rules opening) rules (opened opening) h last run
+
+-- the law on one call: whatever history led to the draft as it was, the law holds of it and, with this call added, of what it then is
+abbrev pub Keeps-the-law : List Rule → State → State → Type 0
+Keeps-the-law rules s s′ =
+    (opening : List ℕ) → Accepted rules opening → (h : List Event) → Run rules (opened opening) h s → Lawful rules opening s × Lawful rules opening s′
+
+-- the law on a whole list of calls: they ran from the opening to the last state, and the law holds at each point
+abbrev pub Lawful-run : List Rule → List ℕ → List Event → State → Type 0
+Lawful-run rules opening h last =
+    (run : Run rules (opened opening) h last) × At-each-point (Lawful rules opening) rules (opened opening) h last run

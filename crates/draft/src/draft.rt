@@ -10,6 +10,7 @@ ghost use Rattle.draft.specs.Draft.{decision-limit};
 ghost use Rattle.draft.specs.Sound.{Fit, Filled, stood, rising, record-limit};
 
 pub mod calls;
+pub mod opens;
 
 use crate::types::Taken;
 use agenda::agenda::Agenda;
@@ -19,6 +20,9 @@ use propagation::record::Strike;
 
 // How many decisions can be in force.
 pub const DECISIONS: usize = 64;
+
+// How many entries a record can have: every option of every field can be struck once.
+pub const STRIKES: usize = 512;
 
 // A draft over a book; settling works through the agenda. One that was made from a refused opening refuses every call.
 // The record has room for every option that stands, and the decisions for as many as can be in force, so that no call

@@ -1,6 +1,6 @@
 // Drafts of a configuration, and the law that holds of each after every list of calls.
 //
-// A draft, and the calls on it:        draft::Draft
+// A draft, opened and asked:           draft::Draft; draft::opens::Unopened where memory was wanting
 // What a draft is asked and answers:   types::Call, types::Answer, types::Taken
 ghost use Rattle.draft.specs.Law.{Law};
 
