@@ -10,7 +10,8 @@ ghost use Rattle.network.specs.Sets.{alone, set-without, set-with, set-below, 
 // How many options a field can have; they are numbered from 0.
 pub const OPTIONS: u8 = 32;
 
-// A set of options: bit a of the word, counted from the lowest, stands for option a.
+// A set of options: bit a of the word, counted from the lowest, stands for option a. In memory it is that word.
+#[repr(C)]
 #[derive(Clone, Copy, PartialEq, Eq, Debug)]
 pub struct OptionSet {
     word: u32,

@@ -38,7 +38,8 @@ impl Side {
     }
 }
 
-// The two fields that a rule stands between.
+// The two fields that a rule stands between. In memory it is two bytes.
+#[repr(C)]
 #[derive(Clone, Copy, PartialEq, Eq, Debug)]
 pub struct Ends {
     pub left: u8,
