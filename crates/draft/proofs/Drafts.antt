@@ -1,6 +1,6 @@
 -- What a draft's ghost fields say, and what they keep saying after a call.
 use Prim.Native.Nat.{ℕ, _+_, _-_, _^_, _<_, _≤_}
-use mathlib.Core.Bool.{Bool, true, false, _&&_}
+use mathlib.Core.Bool.{Bool, true, false}
 use mathlib.Core.Path.{_≡_, refl, sym, ap, _∙_, subst}
 use mathlib.Core.Logic.{⊎-elim}
 use mathlib.Core.List.{List, [], _∷_, _++_}
@@ -26,7 +26,7 @@ use Rattle.propagation.specs.declared.record.Strike.{Strike}
 use Rattle.draft.specs.Draft.{Step, decision-limit, choose-strikes, latest-mark, no-decision}
 use Rattle.draft.specs.Law.{Keeps-the-law}
 use Rattle.draft.specs.Sound.{Fit, Filled, stood, rising, put-all, record-limit}
-use Rattle.draft.specs.View.{view, Answers, Ready}
+use Rattle.draft.specs.View.{view, Answers, Found, Ready}
 use Rattle.draft.specs.declared.draft.opens.Memory.{Memory}
 use Rattle.draft.specs.declared.draft.Draft.{Draft}
 use Rattle.draft.specs.declared.types.Taken.{Taken}
@@ -118,22 +118,22 @@ module _ {B W : Type 0} (d : Draft B W) (h : d .accepted ≡ true) where
     pub part-read : (a : ℕ) (b : Bool) → b ≡ has (r .word) a → part standing x a ≡ b
     part-read a b e = ap (λ v. has v a) (sym word-read) ∙ sym e
 
-    -- the set with an option less
-    module _ (a : ℕ) (there : true ≡ has (r .word) a) (others : ℕ) (less : others ≡ set-without (r .word) a) where
-      pub others-are : others ≡ getD standing x 0 - 2 ^ a
-      others-are = less ∙ without-is (r .word) a (T-yes _ (sym there)) ∙ ap (λ w. w - 2 ^ a) word-read
+  -- the set of an option that stands, without it
+  module _ (x a : ℕ) (r : OptionSet) (f : Found d x a r) (others : ℕ) (less : others ≡ set-without (r .word) a) where
+    pub others-are : others ≡ getD standing x 0 - 2 ^ a
+    others-are = less ∙ without-is (r .word) a (T-yes _ (ap (λ w. has w a) (f .word) ∙ f .stands)) ∙ ap (λ w. w - 2 ^ a) (f .word)
 
-      holds : 2 ^ a ≤ getD standing x 0
-      holds = has-le (getD standing x 0) a (T-yes _ (part-read a true there))
+    holds : 2 ^ a ≤ getD standing x 0
+    holds = has-le (getD standing x 0) a (T-yes _ (f .stands))
 
-      pub is-last : true ≡ eqb others 0 → getD standing x 0 ≡ 2 ^ a
-      is-last e = let none = eqb-true others 0 (sym e) in omega (arith, others-are, holds)
+    pub is-last : true ≡ eqb others 0 → getD standing x 0 ≡ 2 ^ a
+    is-last e = let none = eqb-true others 0 (sym e) in omega (arith, others-are, holds)
 
-      pub is-not-last : false ≡ eqb others 0 → getD standing x 0 ≡ 2 ^ a → ⊥
-      is-not-last e l = let some = eqb-false others 0 (sym e) in some (omega (arith, others-are))
+    pub is-not-last : false ≡ eqb others 0 → getD standing x 0 ≡ 2 ^ a → ⊥
+    is-not-last e l = let some = eqb-false others 0 (sym e) in some (omega (arith, others-are))
 
-      pub filled-others : false ≡ eqb others 0 → Filled (set standing x others)
-      filled-others e = let some = eqb-false others 0 (sym e) in filled-set standing x others (d .filled h) (omega arith)
+    pub filled-others : false ≡ eqb others 0 → Filled (set standing x others)
+    filled-others e = let some = eqb-false others 0 (sym e) in filled-set standing x others (d .filled h) (omega arith)
 
   -- what a choose of an option that stands strikes
   module _ (x a : ℕ) (there : part standing x a ≡ true) where

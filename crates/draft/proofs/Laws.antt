@@ -9,11 +9,11 @@ use lib.ListN.{length, getD}
 use lib.Dec.{eqb, ltb, T, eqb-refl, eqb→eq, ltb→lt, lt→ltb}
 use Rattle.std.proofs.shelf.Tests.{cases-lt}
 use Rattle.faults.specs.declared.EngineFault.the-variants.{WipedOut}
-use Rattle.network.specs.Network.{option-limit, part, Part, Within, Rule, rule-at, Arc-consistent, In-largest, Largest, No-stricter}
+use Rattle.network.specs.Network.{option-limit, part, Part, Rule, rule-at, Arc-consistent, In-largest, Largest, No-stricter}
 use Rattle.network.proofs.Truth.{and-T, T-left, T-right}
 use Rattle.network.proofs.Bits.{some-bit}
 use Rattle.propagation.specs.Strikes.{permits, options, In-force}
-use Rattle.propagation.specs.Opening.{Accepted, Emptied, Wiped-out, Blamed}
+use Rattle.propagation.specs.Opening.{Accepted, Emptied, Blamed}
 use Rattle.propagation.specs.declared.record.Decision.{Decision}
 use Rattle.draft.specs.Draft.{State, Event, Run, Step, Settles, opened, decisions, allowed-by, permitted, Admissible}
 use Rattle.draft.specs.Draft.Settles.{done, wiped, unfit}

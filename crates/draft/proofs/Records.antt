@@ -1,14 +1,14 @@
 -- Strike records: what they leave standing, how long they can get, and what undoing them leaves.
-use Prim.Native.Nat.{ℕ, zero, suc, _+_, _*_, _-_, _^_, _<_, _≤_}
+use Prim.Native.Nat.{ℕ, suc, _+_, _*_, _-_, _^_, _<_, _≤_}
 use mathlib.Core.Bool.{Bool, true, false, _&&_}
-use mathlib.Core.Path.{_≡_, refl, sym, ap, _∙_, subst}
-use mathlib.Core.Logic.{_⊎_, ⊎-elim}
+use mathlib.Core.Path.{_≡_, refl, sym, ap, _∙_}
+use mathlib.Core.Logic.{⊎-elim}
 use mathlib.Core.List.{List, [], _∷_, _++_}
 use native.Mathlib.Omega.{arith}
 use lib.ListN.{length, getD, set, take, drop}
 use lib.Dec.{leb, T}
 use lib.Count.{ones-le}
-use Rattle.std.proofs.shelf.Lists.{length-set, getD-set-same, getD-set-other, getD-past, set-past, set-set, set-getD, take-append-drop, take-more, take-all}
+use Rattle.std.proofs.shelf.Lists.{length-set, getD-set-same, getD-set-other, set-past, set-set, set-getD, take-append-drop, take-more, take-all}
 use Rattle.std.proofs.shelf.Tests.{cases-lt, cases-eq, and-parts, and-from, leb-true}
 use Rattle.network.specs.Network.{option-limit, field-limit, part, Rule}
 use Rattle.network.specs.Sets.{set-with}
