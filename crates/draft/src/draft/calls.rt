@@ -55,10 +55,7 @@ impl<B: Book, W: Agenda> Draft<B, W> {
         ensures untouched { λ _. ⌜ Untouched (now (self .entry)) (now (self .exit)) ⌝ }
         ensures answer { λ r. ⌜ Answers (B·Book .meaning (now (self .entry) .book)) (now (self .entry)) (call.Exclude field option) (done r) (now (self .exit)) ⌝ }
     {
-        let set = match self.find(field, option) {
-            Ok(set) => set,
-            Err(why) => return Err(why),
-        };
+        let set = self.find(field, option)?;
         let others = set.without(option);
         if others.is_empty() {
             return Err(EngineFault::LastOption);
@@ -83,10 +80,7 @@ impl<B: Book, W: Agenda> Draft<B, W> {
         ensures untouched { λ _. ⌜ Untouched (now (self .entry)) (now (self .exit)) ⌝ }
         ensures answer { λ r. ⌜ Answers (B·Book .meaning (now (self .entry) .book)) (now (self .entry)) (call.Choose field option) (done r) (now (self .exit)) ⌝ }
     {
-        let set = match self.find(field, option) {
-            Ok(set) => set,
-            Err(why) => return Err(why),
-        };
+        let set = self.find(field, option)?;
         if self.taken.len() == DECISIONS {
             return Err(EngineFault::TooManyDecisions);
         }

@@ -21,14 +21,14 @@ strike-others-requires g c κs =
     let d = c .args .self .now in
     let x = c .args .field in
     let a = c .args .option in
-    let f = c .in-Ok .ensures tt in
+    let f = c .in-Continue-set .ensures tt in
     let found = choose-strikes (getD (words (vec-items (d .standing))) x 0) x a in
     omega (arith, has-room d (f .accepted) found (others-stood d (f .accepted) x a (f .stands)), ap (λ w. length (choose-strikes w x a)) (f .word))
 
 pub index-mut-requires : need.index-mut-requires
 index-mut-requires g c κs =
     let d = c .args .self .now in
-    let f = c .in-Ok .ensures tt in
+    let f = c .in-Continue-set .ensures tt in
     omega (arith, standing-long d (f .accepted), opening-length d (f .accepted), f .field)
 
 pub ghost-self : need.ghost-self
@@ -36,7 +36,7 @@ ghost-self g c =
     let d = c .args .self .now in
     let x = c .args .field in
     let a = c .args .option in
-    let f = c .in-Ok .ensures tt in
+    let f = c .in-Continue-set .ensures tt in
     let h = f .accepted in
     let found = choose-strikes (getD (words (vec-items (d .standing))) x 0) x a in
     let strikes = c .strike-others .last .strikes in
@@ -56,7 +56,7 @@ returns g c =
     let d = c .args .self .now in
     let x = c .args .field in
     let a = c .args .option in
-    let f = c .in-Ok .ensures tt in
+    let f = c .in-Continue-set .ensures tt in
     let after : words (set (vec-items (d .standing)) x (c .only .result)) ≡ set (words (vec-items (d .standing))) x (2 ^ a) =
     words-set (vec-items (d .standing)) x (c .only .result) ∙ ap (λ w. set (words (vec-items (d .standing))) x w) (c .only .ensures ∙ alone-is a (f .option)) in
     record {

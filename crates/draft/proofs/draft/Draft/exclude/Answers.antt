@@ -20,7 +20,7 @@ returns-then-is-empty g c =
     let d = c .args .self .now in
     let x = c .args .field in
     let a = c .args .option in
-    let f = c .in-Ok .ensures tt in
+    let f = c .in-Continue-set .ensures tt in
     let last = is-last d (f .accepted) x a _ f _ (c .without-others .ensures) (c .if-is-empty .ensures tt) in
     record {
       untouched = record { book = refl; agenda = refl };
@@ -29,13 +29,13 @@ returns-then-is-empty g c =
 
 pub push-reserved-requires : need.push-reserved-requires
 push-reserved-requires g c κs =
-    let f = c .in-Ok .ensures tt in
+    let f = c .in-Continue-set .ensures tt in
     omega (arith, has-room (c .args .self .now) (f .accepted) (exclude-strike (c .args .field) (c .args .option) ∷ []) (and-from _ true (f .stands) refl))
 
 pub index-mut-requires : need.index-mut-requires
 index-mut-requires g c κs =
     let d = c .args .self .now in
-    let f = c .in-Ok .ensures tt in
+    let f = c .in-Continue-set .ensures tt in
     omega (arith, standing-long d (f .accepted), opening-length d (f .accepted), f .field)
 
 pub ghost-self : need.ghost-self
@@ -43,7 +43,7 @@ ghost-self g c =
     let d = c .args .self .now in
     let x = c .args .field in
     let a = c .args .option in
-    let f = c .in-Ok .ensures tt in
+    let f = c .in-Continue-set .ensures tt in
     let strikes = c .push-reserved .last .self in
     let taken = c .push-reserved-2 .last .self in
     let now = words-set (vec-items (d .standing)) x (c .without-others .result) in
@@ -58,7 +58,7 @@ returns g c =
     let d = c .args .self .now in
     let x = c .args .field in
     let a = c .args .option in
-    let f = c .in-Ok .ensures tt in
+    let f = c .in-Continue-set .ensures tt in
     let more = is-not-last d (f .accepted) x a _ f _ (c .without-others .ensures) (c .if-is-empty .ensures tt) in
     record {
       untouched = record { book = refl; agenda = refl };
