@@ -2,7 +2,7 @@
 use Prim.Native.Nat.{ℕ, zero, suc, _+_, _*_, _-_, _/_, _%_, _^_, _<_, _≤_}
 use mathlib.Core.Bool.{Bool, true, false, _&&_, not, cond}
 use mathlib.Core.Path.{_≡_, refl, sym, ap, subst, _∙_}
-use mathlib.Core.Logic.{_⊎_, ⊎-elim}
+use mathlib.Core.Logic.{⊎-elim}
 use mathlib.Core.List.{List, [], _∷_, _++_}
 use native.Mathlib.Omega.{arith}
 use native.Mathlib.Numerals.{add-one}
@@ -15,7 +15,7 @@ use Rattle.std.proofs.shelf.Tests.{cases-bool, cases-lt, cases-eq, eq-eqb, ne-e
 use Rattle.network.specs.Network.{option-limit, has, part, Rule}
 use Rattle.network.proofs.Truth.{yes-T, T-yes}
 use Rattle.network.proofs.Bits.{has-below}
-use Rattle.propagation.specs.Strikes.{without, Struck, In-force}
+use Rattle.propagation.specs.Strikes.{Struck, In-force}
 use Rattle.propagation.specs.declared.record.Strike.{Strike}
 use Rattle.propagation.specs.declared.record.Cause.the-variants.{Decided}
 use Rattle.propagation.specs.declared.record.Decision.{Decision}

@@ -1,6 +1,6 @@
 -- What a draft's ghost fields say, and what they keep saying after a call.
 use Prim.Native.Nat.{ℕ, _+_, _-_, _^_, _<_, _≤_}
-use mathlib.Core.Bool.{Bool, true, false, _&&_}
+use mathlib.Core.Bool.{Bool, true, false}
 use mathlib.Core.Path.{_≡_, refl, sym, ap, _∙_, subst}
 use mathlib.Core.Logic.{⊎-elim}
 use mathlib.Core.List.{List, [], _∷_, _++_}
@@ -26,7 +26,7 @@ use Rattle.propagation.specs.declared.record.Strike.{Strike}
 use Rattle.draft.specs.Draft.{Step, decision-limit, choose-strikes, latest-mark, no-decision}
 use Rattle.draft.specs.Law.{Keeps-the-law}
 use Rattle.draft.specs.Sound.{Fit, Filled, stood, rising, put-all, record-limit}
-use Rattle.draft.specs.View.{view, Answers, Ready}
+use Rattle.draft.specs.View.{view, Answers, Found, Ready}
 use Rattle.draft.specs.declared.draft.opens.Memory.{Memory}
 use Rattle.draft.specs.declared.draft.Draft.{Draft}
 use Rattle.draft.specs.declared.types.Taken.{Taken}
@@ -36,7 +36,7 @@ use Rattle.draft.proofs.Sets.{filled-set}
 use Rattle.draft.proofs.Strikes.{struck-left}
 use Rattle.draft.proofs.Choosing.{choose-struck}
 use Rattle.draft.proofs.Laws.{step-keeps-the-law, same-keeps-the-law}
-use Rattle.draft.proofs.Records.{struck-all-stood, length-left-by, fit-left-by, left-by-append, stood-append, record-bound, rising-push, rising-drop, put-back-cut, stood-front, filled-front}
+use Rattle.draft.proofs.Records.{struck-all-stood, length-left-by, fit-left-by, left-by-append, stood-append, record-bound, rising-push, rising-longer, rising-drop, put-back-cut, stood-front, filled-front}
 
 -- the ghost fields of a draft, as a function that changes one owes them
 abbrev pub Kept : (accepted : Bool) (fields : ℕ) (opening standing : List ℕ) (strikes : List Strike) (marks room : ℕ) (taken : List Taken) (decisions places : ℕ) → Type 0
@@ -118,22 +118,22 @@ module _ {B W : Type 0} (d : Draft B W) (h : d .accepted ≡ true) where
     pub part-read : (a : ℕ) (b : Bool) → b ≡ has (r .word) a → part standing x a ≡ b
     part-read a b e = ap (λ v. has v a) (sym word-read) ∙ sym e
 
-    -- the set with an option less
-    module _ (a : ℕ) (there : true ≡ has (r .word) a) (others : ℕ) (less : others ≡ set-without (r .word) a) where
-      pub others-are : others ≡ getD standing x 0 - 2 ^ a
-      others-are = less ∙ without-is (r .word) a (T-yes _ (sym there)) ∙ ap (λ w. w - 2 ^ a) word-read
+  -- the set of an option that stands, without it
+  module _ (x a : ℕ) (r : OptionSet) (f : Found d x a r) (others : ℕ) (less : others ≡ set-without (r .word) a) where
+    pub others-are : others ≡ getD standing x 0 - 2 ^ a
+    others-are = less ∙ without-is (r .word) a (T-yes _ (ap (λ w. has w a) (f .word) ∙ f .stands)) ∙ ap (λ w. w - 2 ^ a) (f .word)
 
-      holds : 2 ^ a ≤ getD standing x 0
-      holds = has-le (getD standing x 0) a (T-yes _ (part-read a true there))
+    holds : 2 ^ a ≤ getD standing x 0
+    holds = has-le (getD standing x 0) a (T-yes _ (f .stands))
 
-      pub is-last : true ≡ eqb others 0 → getD standing x 0 ≡ 2 ^ a
-      is-last e = let none = eqb-true others 0 (sym e) in omega (arith, others-are, holds)
+    pub is-last : true ≡ eqb others 0 → getD standing x 0 ≡ 2 ^ a
+    is-last e = let none = eqb-true others 0 (sym e) in omega (arith, others-are, holds)
 
-      pub is-not-last : false ≡ eqb others 0 → getD standing x 0 ≡ 2 ^ a → ⊥
-      is-not-last e l = let some = eqb-false others 0 (sym e) in some (omega (arith, others-are))
+    pub is-not-last : false ≡ eqb others 0 → getD standing x 0 ≡ 2 ^ a → ⊥
+    is-not-last e l = let some = eqb-false others 0 (sym e) in some (omega (arith, others-are))
 
-      pub filled-others : false ≡ eqb others 0 → Filled (set standing x others)
-      filled-others e = let some = eqb-false others 0 (sym e) in filled-set standing x others (d .filled h) (omega arith)
+    pub filled-others : false ≡ eqb others 0 → Filled (set standing x others)
+    filled-others e = let some = eqb-false others 0 (sym e) in filled-set standing x others (d .filled h) (omega arith)
 
   -- what a choose of an option that stands strikes
   module _ (x a : ℕ) (there : part standing x a ≡ true) where
@@ -162,6 +162,10 @@ module _ {B W : Type 0} (d : Draft B W) (h : d .accepted ≡ true) where
         stood-append opening (vec-items (d .strikes)) found ∙
         and-from (stood opening (vec-items (d .strikes))) (stood (left-by opening (vec-items (d .strikes))) found) (d .struck h) (subst (λ sets. stood sets found ≡ true) (d .stands h) stands)
 
+    all-left : (after : List ℕ) (strikes : List Strike) → after ≡ left-by standing found → strikes ≡ vec-items (d .strikes) ++ found → after ≡ left-by opening strikes
+    all-left after strikes es ek =
+        es ∙ ap (λ sets. left-by sets found) (d .stands h) ∙ sym (ap (λ ss. left-by opening ss) ek ∙ left-by-append opening (vec-items (d .strikes)) found)
+
     -- the record has room for what is struck
     pub has-room : vec-len (d .strikes) + length found ≤ vec-cap (d .strikes)
     has-room =
@@ -181,11 +185,21 @@ module _ {B W : Type 0} (d : Draft B W) (h : d .accepted ≡ true) where
         places ≡ vec-cap (d .taken) →
         Kept (d .accepted) (vec-len (d .opening)) opening after strikes marks room taken decisions places
     grown t after strikes marks room taken decisions places es ef ek em er et ev ed few ep =
-        let left : after ≡ left-by opening strikes =
-        es ∙ ap (λ sets. left-by sets found) (d .stands h) ∙ sym (ap (λ ss. left-by opening ss) ek ∙ left-by-append opening (vec-items (d .strikes)) found) in
         let rise : rising taken marks ≡ true =
         ap (λ ts. rising ts marks) ev ∙ rising-push (vec-items (d .taken)) t marks ∙ and-from (rising (vec-items (d .taken)) (t .mark)) (leb (t .mark) marks) (ap (λ m. rising (vec-items (d .taken)) m) et ∙ d .marks h) (le-leb (t .mark) marks (omega arith)) in
-        (d .some, (d .few, (d .fit, ((λ _. ef), ((λ _. left), ((λ _. ap (λ ss. stood opening ss) ek ∙ all-stood), ((λ _. omega (arith, d .decided h)), ((λ _. rise), ((λ _. omega (arith, d .room h)), ((λ _. omega (arith, d .places h)), tt))))))))))
+        (d .some, (d .few, (d .fit, ((λ _. ef), ((λ _. all-left after strikes es ek), ((λ _. ap (λ ss. stood opening ss) ek ∙ all-stood), ((λ _. omega (arith, d .decided h)), ((λ _. rise), ((λ _. omega (arith, d .room h)), ((λ _. omega (arith, d .places h)), tt))))))))))
+
+    -- strikes are made, and no decision is taken
+    pub lengthened : (after : List ℕ) (strikes : List Strike) (marks room : ℕ) →
+        after ≡ left-by standing found →
+        Filled after →
+        strikes ≡ vec-items (d .strikes) ++ found →
+        marks ≡ vec-len (d .strikes) + length found →
+        room ≡ vec-cap (d .strikes) →
+        Kept (d .accepted) (vec-len (d .opening)) opening after strikes marks room (vec-items (d .taken)) (vec-len (d .taken)) (vec-cap (d .taken))
+    lengthened after strikes marks room es ef ek em er =
+        let rise : rising (vec-items (d .taken)) marks ≡ true = rising-longer (vec-items (d .taken)) (vec-len (d .strikes)) marks (omega arith) (d .marks h) in
+        (d .some, (d .few, (d .fit, ((λ _. ef), ((λ _. all-left after strikes es ek), ((λ _. ap (λ ss. stood opening ss) ek ∙ all-stood), (d .decided, ((λ _. rise), ((λ _. omega (arith, d .room h)), (d .places, tt))))))))))
 
   -- the latest decision
   module _ (some : 0 < vec-len (d .taken)) where

@@ -9,15 +9,15 @@ use lib.ListN.{length, getD}
 use lib.Dec.{eqb, ltb, T, eqb-refl, eqb→eq, ltb→lt, lt→ltb}
 use Rattle.std.proofs.shelf.Tests.{cases-lt}
 use Rattle.faults.specs.declared.EngineFault.the-variants.{WipedOut}
-use Rattle.network.specs.Network.{option-limit, part, Part, Within, Rule, rule-at, Arc-consistent, In-largest, Largest, No-stricter}
+use Rattle.network.specs.Network.{option-limit, part, Part, Rule, rule-at, Arc-consistent, In-largest, Largest, No-stricter}
 use Rattle.network.proofs.Truth.{and-T, T-left, T-right}
 use Rattle.network.proofs.Bits.{some-bit}
 use Rattle.propagation.specs.Strikes.{permits, options, In-force}
-use Rattle.propagation.specs.Opening.{Accepted, Emptied, Wiped-out, Blamed}
+use Rattle.propagation.specs.Opening.{Accepted, Emptied, Blamed}
 use Rattle.propagation.specs.declared.record.Decision.{Decision}
 use Rattle.draft.specs.Draft.{State, Event, Run, Step, Settles, opened, decisions, allowed-by, permitted, Admissible}
 use Rattle.draft.specs.Draft.Settles.{done, wiped, unfit}
-use Rattle.draft.specs.Law.{Balanced, Counts, Tells-wiped-out, Settles-exactly, At-least-as-loose, Shows-no-less, Lawful, Law, Keeps-the-law, Lawful-run}
+use Rattle.draft.specs.Law.{Balanced, Counts, Tells-wiped-out, To-blame, Settles-exactly, At-least-as-loose, Shows-no-less, Lawful, Law, Keeps-the-law, Lawful-run}
 use Rattle.draft.specs.declared.types.Call.{Call}
 use Rattle.draft.specs.declared.types.Answer.{Answer}
 use Rattle.draft.specs.declared.types.Answer.the-variants.{Settled, Refused}
@@ -72,16 +72,16 @@ module _ (rules : List Rule) (opening : List ℕ) (ok : Accepted rules opening) 
   some-standing : (x : ℕ) → x < length (s .opening) → (a : ℕ) × T (part (s .standing) x a)
   some-standing x l = some-bit option-limit (getD (s .standing) x 0) (g .fit x) (g .filled x (let e = fields-stand in omega arith))
 
-  -- the fault names a rule that is to blame against the largest part of what stands, which is that of the opening under the decisions
-  blamed-by-opening : (x r : ℕ) → Blamed rules (part (s .standing)) x r → Blamed rules (allowed-by s) x r
-  blamed-by-opening x r b = (
+  -- a rule that is to blame against the largest part of what stands
+  to-blame : (x r : ℕ) → Blamed rules (part (s .standing)) x r → To-blame rules s x r
+  to-blame x r b = (
     b .0,
     (
       b .1 .0,
       (
         b .1 .1 .0,
         (
-          g .inside x (b .1 .0) (b .1 .1 .1 .0),
+          b .1 .1 .1 .0,
           λ q l. b .1 .1 .1 .1 q (record { all = λ y c t. to-standing y c (l .all y c t); only = λ y c t. l .only y c (from-standing y c t) }),
         ),
       ),
@@ -147,7 +147,7 @@ module _ (rules : List Rule) (opening : List ℕ) (ok : Accepted rules opening) 
         let b = l .some (w .0) (w .1 .0) in
         w .1 .1 (b .0) (l .largest .all (w .0) (b .0) (b .1));
     named-field = λ x r t h. let w = told-by-settle x r _ t refl h in (w .field-is, λ a q. w .empty a (to-standing x a q));
-    named-rule = λ x r t h. blamed-by-opening x r (told-by-settle x r _ t refl h .blamed);
+    named-rule = λ x r t h. to-blame x r (told-by-settle x r _ t refl h .blamed);
   }
 
 -- decisions in force permit what they all permit

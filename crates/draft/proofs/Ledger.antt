@@ -22,7 +22,7 @@ use Rattle.propagation.specs.Opening.{Accepted}
 use Rattle.propagation.specs.declared.record.Strike.{Strike}
 use Rattle.propagation.specs.declared.record.Decision.{Decision}
 use Rattle.propagation.specs.declared.record.Decision.the-variants as decision
-use Rattle.draft.specs.Draft.{State, Event, Run, Step, Does, Settles, opened, settled, decisions, under, permitted, allowed-by, choose-strikes, exclude-strike, refusal, decide, take-back, no-decision, latest-mark}
+use Rattle.draft.specs.Draft.{State, Event, Run, Step, Does, opened, settled, decisions, under, permitted, allowed-by, choose-strikes, exclude-strike, refusal, decide, take-back, no-decision, latest-mark}
 use Rattle.draft.specs.Draft.Settles.{done, wiped, unfit}
 use Rattle.draft.specs.declared.types.Taken.{Taken}
 use Rattle.draft.specs.declared.types.Call.{Call}

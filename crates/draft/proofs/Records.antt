@@ -1,15 +1,15 @@
 -- Strike records: what they leave standing, how long they can get, and what undoing them leaves.
-use Prim.Native.Nat.{ℕ, zero, suc, _+_, _*_, _-_, _^_, _<_, _≤_}
+use Prim.Native.Nat.{ℕ, suc, _+_, _*_, _-_, _^_, _<_, _≤_}
 use mathlib.Core.Bool.{Bool, true, false, _&&_}
-use mathlib.Core.Path.{_≡_, refl, sym, ap, _∙_, subst}
-use mathlib.Core.Logic.{_⊎_, ⊎-elim}
+use mathlib.Core.Path.{_≡_, refl, sym, ap, _∙_}
+use mathlib.Core.Logic.{⊎-elim}
 use mathlib.Core.List.{List, [], _∷_, _++_}
 use native.Mathlib.Omega.{arith}
 use lib.ListN.{length, getD, set, take, drop}
 use lib.Dec.{leb, T}
 use lib.Count.{ones-le}
-use Rattle.std.proofs.shelf.Lists.{length-set, getD-set-same, getD-set-other, getD-past, set-past, set-set, set-getD, take-append-drop, take-more, take-all}
-use Rattle.std.proofs.shelf.Tests.{cases-lt, cases-eq, and-parts, and-from, leb-true}
+use Rattle.std.proofs.shelf.Lists.{length-set, getD-set-same, getD-set-other, set-past, set-set, set-getD, take-append-drop, take-more, take-all}
+use Rattle.std.proofs.shelf.Tests.{cases-lt, cases-eq, and-parts, and-from, leb-true, le-leb}
 use Rattle.network.specs.Network.{option-limit, field-limit, part, Rule}
 use Rattle.network.specs.Sets.{set-with}
 use Rattle.network.proofs.Truth.{yes-T, T-yes}
@@ -92,6 +92,17 @@ rising-push (u ∷ ts) t top =
     ap (λ m. leb (u .mark) m && rising (ts ++ t ∷ []) top) (first-mark-push ts t top) ∙
     ap (λ b. leb (u .mark) (first-mark ts (t .mark)) && b) (rising-push ts t top) ∙
     and-assoc (leb (u .mark) (first-mark ts (t .mark))) (rising ts (t .mark)) (leb (t .mark) top)
+
+-- the marks under a longer record
+pub rising-longer : (ts : List Taken) (top more : ℕ) → top ≤ more → rising ts top ≡ true → rising ts more ≡ true
+rising-longer [] top more l h = refl
+rising-longer (t ∷ []) top more l h =
+    let p = and-parts (leb (t .mark) top) true h in
+    let m = leb-true (t .mark) top (p .0) in
+    and-from (leb (t .mark) more) true (le-leb (t .mark) more (omega arith)) refl
+rising-longer (t ∷ u ∷ ts) top more l h =
+    let p = and-parts (leb (t .mark) (u .mark)) (rising (u ∷ ts) top) h in
+    and-from (leb (t .mark) (u .mark)) (rising (u ∷ ts) more) (p .0) (rising-longer (u ∷ ts) top more l (p .1))
 
 -- the marks with the latest decision dropped
 pub rising-drop : (ts : List Taken) (top : ℕ) (d : Taken) → 0 < length ts → rising ts top ≡ true → (rising (take (length ts - 1) ts) (getD ts (length ts - 1) d .mark) ≡ true) × (getD ts (length ts - 1) d .mark ≤ top)

@@ -1,15 +1,15 @@
 -- What a list of set words keeps once an option is struck, or a word is put in.
-use Prim.Native.Nat.{ℕ, zero, suc, _+_, _-_, _^_, _<_, _≤_}
-use mathlib.Core.Bool.{Bool, true, false, _&&_, not, cond}
-use mathlib.Core.Path.{_≡_, refl, sym, ap, subst, _∙_}
-use mathlib.Core.Logic.{_⊎_, inl, inr, ⊎-elim}
+use Prim.Native.Nat.{ℕ, zero, suc, _+_, _-_, _^_, _<_}
+use mathlib.Core.Bool.{_&&_, not}
+use mathlib.Core.Path.{_≡_, sym, ap, subst, _∙_}
+use mathlib.Core.Logic.{⊎-elim}
 use mathlib.Core.List.{List, [], _∷_}
 use native.Mathlib.Omega.{arith}
 use lib.ListN.{length, getD, set}
 use lib.Dec.{eqb, T, eqb-refl}
 use lib.Count.{ones}
 use Rattle.std.proofs.shelf.Lists.{getD-set-same, getD-set-other, length-set, getD-past, set-past}
-use Rattle.std.proofs.shelf.Tests.{ne-eqb, eq-eqb, cases-eq, cases-lt, cond-true, cond-false}
+use Rattle.std.proofs.shelf.Tests.{ne-eqb, cases-eq, cases-lt}
 use Rattle.network.specs.Network.{has, part}
 use Rattle.propagation.specs.Strikes.{without, options}
 use Rattle.network.proofs.Truth.{yes-T, T-no, and-true, and-false}

@@ -1,15 +1,14 @@
 -- A call's answer, refused or done.
 use Prim.Native.Nat.{ℕ, _<_, _≤_, _^_}
-use mathlib.Core.Bool.{true, false, not, _&&_}
-use mathlib.Core.Path.{_≡_, refl, ap, _∙_}
+use mathlib.Core.Bool.{true, false}
+use mathlib.Core.Path.{_≡_, refl, ap}
 use mathlib.Core.List.{List, [], _∷_}
 use native.Mathlib.Omega.{arith}
 use lib.ListN.{length, getD, set}
-use lib.Dec.{ltb}
 use Rattle.std.proofs.shelf.Tests.{lt-ltb, le-ltb, eq-eqb, ne-eqb}
 use Rattle.std.specs.declared.option.Option.the-variants.{Some, None}
 use Rattle.faults.specs.declared.EngineFault.{EngineFault}
-use Rattle.faults.specs.declared.EngineFault.the-variants.{OutOfRange, NotStanding, LastOption, TooManyDecisions, NoDecision}
+use Rattle.faults.specs.declared.EngineFault.the-variants.{OutOfRange, NotStanding, LastOption}
 use Rattle.network.specs.Network.{option-limit, Rule, part}
 use Rattle.propagation.specs.Strikes.{without}
 use Rattle.propagation.specs.declared.record.Decision.the-variants as decision
@@ -19,7 +18,7 @@ use Rattle.draft.specs.declared.types.Call.the-variants as call
 use Rattle.draft.specs.declared.types.Answer.{Answer}
 use Rattle.draft.specs.declared.types.Answer.the-variants.{Refused, Shown, Done}
 
-refused : (rules : List Rule) (s : State) (c : Call) (why : EngineFault) → refusal s c ≡ Some why → Step rules s c (Refused why) s
+pub refused : (rules : List Rule) (s : State) (c : Call) (why : EngineFault) → refusal s c ≡ Some why → Step rules s c (Refused why) s
 refused rules s c why e = rw (e, Step) (refl, refl)
 
 acts : (rules : List Rule) (s : State) (c : Call) (answer : Answer) (s′ : State) → refusal s c ≡ None → Does rules s c answer s′ → Step rules s c answer s′
@@ -35,48 +34,36 @@ pub shows : (rules : List Rule) (s : State) (x w : ℕ) → x < length (s .openi
 shows rules s x w h e =
     acts rules s (call.Show x) (Shown (record { word = w })) s (rw (lt-ltb x (length (s .opening)) h) refl) (ap (λ v. Shown (record { word = v })) e, refl)
 
--- a decision on numbers that name no field or no option
-module _ (rules : List Rule) (s : State) (x a : ℕ) (out : in-range s x a ≡ false) where
-  pub chooses-out : Step rules s (call.Choose x a) (Refused OutOfRange) s
-  chooses-out = refused rules s (call.Choose x a) OutOfRange (rw out refl)
+-- why a decision is refused, whichever it is
+module _ (s : State) (x a : ℕ) where
+  pub choose-out : in-range s x a ≡ false → refusal s (call.Choose x a) ≡ Some OutOfRange
+  choose-out out = rw out refl
 
-  pub excludes-out : Step rules s (call.Exclude x a) (Refused OutOfRange) s
-  excludes-out = refused rules s (call.Exclude x a) OutOfRange (rw out refl)
+  pub exclude-out : in-range s x a ≡ false → refusal s (call.Exclude x a) ≡ Some OutOfRange
+  exclude-out out = rw out refl
+
+  pub choose-absent : x < length (s .opening) → a < option-limit → part (s .standing) x a ≡ false → refusal s (call.Choose x a) ≡ Some NotStanding
+  choose-absent is-field is-option h = rw (lt-ltb x (length (s .opening)) is-field, lt-ltb a option-limit is-option, h) refl
+
+  pub exclude-absent : x < length (s .opening) → a < option-limit → part (s .standing) x a ≡ false → refusal s (call.Exclude x a) ≡ Some NotStanding
+  exclude-absent is-field is-option h = rw (lt-ltb x (length (s .opening)) is-field, lt-ltb a option-limit is-option, h) refl
 
 -- a decision on an option in range
 module _ (rules : List Rule) (s : State) (x a : ℕ) (is-field : x < length (s .opening)) (is-option : a < option-limit) where
-  pub chooses-not : part (s .standing) x a ≡ false → Step rules s (call.Choose x a) (Refused NotStanding) s
-  chooses-not h = refused rules s (call.Choose x a) NotStanding (rw (lt-ltb x (length (s .opening)) is-field, lt-ltb a option-limit is-option, h) refl)
-
-  pub excludes-not : part (s .standing) x a ≡ false → Step rules s (call.Exclude x a) (Refused NotStanding) s
-  excludes-not h = refused rules s (call.Exclude x a) NotStanding (rw (lt-ltb x (length (s .opening)) is-field, lt-ltb a option-limit is-option, h) refl)
-
   module _ (stands : part (s .standing) x a ≡ true) where
     pub excludes-last : getD (s .standing) x 0 ≡ 2 ^ a → Step rules s (call.Exclude x a) (Refused LastOption) s
     excludes-last h =
         refused rules s (call.Exclude x a) LastOption (rw (lt-ltb x (length (s .opening)) is-field, lt-ltb a option-limit is-option, stands, eq-eqb (getD (s .standing) x 0) (2 ^ a) h) refl)
-
-    pub chooses-full : length (s .taken) ≡ decision-limit → Step rules s (call.Choose x a) (Refused TooManyDecisions) s
-    chooses-full h =
-        refused rules s (call.Choose x a) TooManyDecisions (rw (lt-ltb x (length (s .opening)) is-field, lt-ltb a option-limit is-option, stands, eq-eqb (length (s .taken)) decision-limit h) refl)
 
     pub chooses : (length (s .taken) ≡ decision-limit → ⊥) → (s′ : State) → s′ ≡ decide s (decision.Choose x a) (choose-strikes (getD (s .standing) x 0) x a) (set (s .standing) x (2 ^ a)) → Step rules s (call.Choose x a) Done s′
     chooses h s′ e =
         acts rules s (call.Choose x a) Done s′ (rw (lt-ltb x (length (s .opening)) is-field, lt-ltb a option-limit is-option, stands, ne-eqb (length (s .taken)) decision-limit h) refl) (refl, e)
 
     module _ (others : getD (s .standing) x 0 ≡ 2 ^ a → ⊥) where
-      pub excludes-full : length (s .taken) ≡ decision-limit → Step rules s (call.Exclude x a) (Refused TooManyDecisions) s
-      excludes-full h =
-          refused rules s (call.Exclude x a) TooManyDecisions
-          (rw (lt-ltb x (length (s .opening)) is-field, lt-ltb a option-limit is-option, stands, ne-eqb (getD (s .standing) x 0) (2 ^ a) others, eq-eqb (length (s .taken)) decision-limit h) refl)
-
       pub excludes : (length (s .taken) ≡ decision-limit → ⊥) → (s′ : State) → s′ ≡ decide s (decision.Exclude x a) (exclude-strike x a ∷ []) (without (s .standing) x a) → Step rules s (call.Exclude x a) Done s′
       excludes h s′ e =
           acts rules s (call.Exclude x a) Done s′
           (rw (lt-ltb x (length (s .opening)) is-field, lt-ltb a option-limit is-option, stands, ne-eqb (getD (s .standing) x 0) (2 ^ a) others, ne-eqb (length (s .taken)) decision-limit h) refl) (refl, e)
-
-pub takes-back-none : (rules : List Rule) (s : State) → length (s .taken) ≡ 0 → Step rules s call.TakeBack (Refused NoDecision) s
-takes-back-none rules s h = refused rules s call.TakeBack NoDecision (rw (eq-eqb (length (s .taken)) 0 h) refl)
 
 pub takes-back : (rules : List Rule) (s : State) → 0 < length (s .taken) → (s′ : State) → s′ ≡ take-back s → Step rules s call.TakeBack Done s′
 takes-back rules s h s′ e = acts rules s call.TakeBack Done s′ (rw (ne-eqb (length (s .taken)) 0 (λ z. omega arith)) refl) (refl, e)

@@ -6,9 +6,10 @@ use mathlib.Core.List.{List, [], _∷_}
 use lib.ListN.{length, getD, take}
 use lib.Dec.{T}
 use Rattle.faults.specs.declared.EngineFault.the-variants.{WipedOut}
-use Rattle.network.specs.Network.{Rule, part, Within, Largest, No-stricter}
-use Rattle.propagation.specs.Strikes.{In-force, options, left-by, Holds}
-use Rattle.propagation.specs.Opening.{Accepted, Emptied, Wiped-out, Blamed}
+use Rattle.network.specs.Network.{Rule, Part, part, Within, Largest, No-stricter}
+use Rattle.network.specs.declared.rules.Side.{Side}
+use Rattle.propagation.specs.Strikes.{In-force, Unsupported-at, options, left-by, Holds}
+use Rattle.propagation.specs.Opening.{Accepted, Emptied, Wiped-out}
 use Rattle.propagation.specs.declared.record.Decision.{Decision}
 use Rattle.propagation.specs.declared.record.Strike.{Strike}
 use Rattle.draft.specs.Draft.{State, Event, Run, Step, opened, decisions, allowed-by, Admissible, Honours}
@@ -35,6 +36,11 @@ Counts answer = (k : ℕ) × ((m : ℕ) × (answer ≡ Settled k m))
 abbrev pub Tells-wiped-out : Answer → Type 0
 Tells-wiped-out answer = (x : ℕ) × ((r : ℕ) × (answer ≡ Refused (WipedOut x r)))
 
+-- rule r is one of field x under which an option that stands there has no partner in the largest part
+abbrev pub To-blame : List Rule → State → ℕ → ℕ → Type 0
+To-blame rules s x r =
+    (side : Side) × ((a : ℕ) × ((r < length rules) × (T (part (s .standing) x a) × ((q : Part) → Largest rules (allowed-by s) q → Unsupported-at rules q side r x a))))
+
 -- a settle from s is exact against the opening sets under the decisions in force
 pub record Settles-exactly (rules : List Rule) (s : State) : Type 0 where
   -- it is done, or refused as wiped out
@@ -47,7 +53,7 @@ pub record Settles-exactly (rules : List Rule) (s : State) : Type 0 where
   -- it is wiped out exactly when that part has an empty field; the field that it names is one, and the rule is to blame
   pub done-only : (k m : ℕ) (s′ : State) → Step rules s call.Settle (Settled k m) s′ → Wiped-out rules (length (s .opening)) (allowed-by s) → ⊥
   pub named-field : (x r : ℕ) (s′ : State) → Step rules s call.Settle (Refused (WipedOut x r)) s′ → (x < length (s .opening)) × Emptied rules (allowed-by s) x
-  pub named-rule : (x r : ℕ) (s′ : State) → Step rules s call.Settle (Refused (WipedOut x r)) s′ → Blamed rules (allowed-by s) x r
+  pub named-rule : (x r : ℕ) (s′ : State) → Step rules s call.Settle (Refused (WipedOut x r)) s′ → To-blame rules s x r
 
 -- the second draft is at least as loose as the first
 pub record At-least-as-loose (rules rules′ : List Rule) (s s′ : State) : Type 0 where

@@ -4,22 +4,24 @@ use mathlib.Core.Path.{_≡_}
 use mathlib.Core.Logic.{_≢_}
 use mathlib.Core.List.{List, []}
 use Prim.Native.Nat.{ℕ, _<_, _≤_}
-use lib.ListN.{length}
+use lib.ListN.{length, getD}
 use Rattle.std.specs.Of.Vec.{vec-items, vec-cap}
 use Rattle.std.specs.Orderings.{Decides}
+use Rattle.std.specs.declared.option.Option.the-variants.{Some}
 use Rattle.std.specs.declared.result.Result.{Result}
 use Rattle.std.specs.declared.result.Result.the-variants.{Ok, Err}
 use Rattle.faults.specs.declared.EngineFault.{EngineFault}
 use Rattle.faults.specs.declared.EngineFault.the-variants.{NotOpened}
-use Rattle.network.specs.Network.{Rule, rule-at, words}
+use Rattle.network.specs.Network.{option-limit, Rule, rule-at, part, words}
 use Rattle.network.specs.declared.options.OptionSet.{OptionSet}
 use Rattle.propagation.specs.Opening.{Accepted}
-use Rattle.draft.specs.Draft.{State, Step, opened, decision-limit}
+use Rattle.draft.specs.Draft.{State, Step, refusal, opened, decision-limit}
 use Rattle.draft.specs.Sound.{record-limit}
 use Rattle.draft.specs.declared.draft.Draft.{Draft}
 use Rattle.draft.specs.declared.draft.opens.Memory.{Memory}
 use Rattle.draft.specs.declared.draft.opens.Unopened.{Unopened}
 use Rattle.draft.specs.declared.types.Call.{Call}
+use Rattle.draft.specs.declared.types.Call.the-variants as call
 use Rattle.draft.specs.declared.types.Answer.{Answer}
 use Rattle.draft.specs.declared.types.Answer.the-variants.{Done, Shown, Refused}
 
@@ -41,6 +43,20 @@ pub record Answers {B W : Type 0} (rules : List Rule) (d : Draft B W) (c : Call)
   pub same : d′ .accepted ≡ d .accepted
   pub step : d .accepted ≡ true → Step rules (view d) c answer (view d′)
   pub shut : d .accepted ≡ false → (answer ≡ Refused NotOpened) × (view d′ ≡ view d)
+
+-- the draft is open, and option a stands in the set of field x
+pub record Found {B W : Type 0} (d : Draft B W) (x a : ℕ) (set : OptionSet) : Type 0 where
+  pub accepted : d .accepted ≡ true
+  pub field : x < length (view d .opening)
+  pub option : a < option-limit
+  pub stands : part (view d .standing) x a ≡ true
+  pub word : set .word ≡ getD (view d .standing) x 0
+
+-- the draft is not open, or this is the first refusal that fits any decision on option a of field x
+pub record Not-found {B W : Type 0} (d : Draft B W) (x a : ℕ) (why : EngineFault) : Type 0 where
+  pub shut : d .accepted ≡ false → why ≡ NotOpened
+  pub chosen : d .accepted ≡ true → refusal (view d) (call.Choose x a) ≡ Some why
+  pub excluded : d .accepted ≡ true → refusal (view d) (call.Exclude x a) ≡ Some why
 
 -- nothing but what the draft stands for has changed
 pub record Untouched {B W : Type 0} (d d′ : Draft B W) : Type 0 where

@@ -27,6 +27,7 @@ pub const STRIKES: usize = 512;
 // A draft over a book; settling works through the agenda. One that was made from a refused opening refuses every call.
 // The record has room for every option that stands, and the decisions for as many as can be in force, so that no call
 // wants for memory.
+#[derive(Drop)]
 pub struct Draft<B: Book, W: Agenda> {
     book: B,
     agenda: W,

@@ -1,6 +1,7 @@
 // The calls on a draft.
 
-ghost use Rattle.draft.specs.View.{Answers, Untouched, done, shown};
+ghost use Rattle.std.specs.Results.{Cases as ByOk};
+ghost use Rattle.draft.specs.View.{Answers, Untouched, Found, Not-found, done, shown};
 ghost use Rattle.draft.specs.declared.types.Call.the-variants as call;
 use crate::draft::DECISIONS;
 use crate::draft::Draft;
@@ -31,10 +32,9 @@ impl<B: Book, W: Agenda> Draft<B, W> {
         Ok(self.standing[x])
     }
 
-    // Leaves one option of a field out.
-    pub fn exclude(&mut self, field: u8, option: u8) -> Result<(), EngineFault>
-        ensures untouched { λ _. ⌜ Untouched (now (self .entry)) (now (self .exit)) ⌝ }
-        ensures answer { λ r. ⌜ Answers (B·Book .meaning (now (self .entry) .book)) (now (self .entry)) (call.Exclude field option) (done r) (now (self .exit)) ⌝ }
+    // The set in which an option stands that is to be decided on, or why no decision on it can be taken.
+    fn find(&self, field: u8, option: u8) -> Result<OptionSet, EngineFault>
+        ensures { λ r. ⌜ ByOk r (Found (now (self .entry)) field option) (Not-found (now (self .entry)) field option) ⌝ }
     {
         if !self.accepted {
             return Err(EngineFault::NotOpened);
@@ -47,6 +47,15 @@ impl<B: Book, W: Agenda> Draft<B, W> {
         if !set.contains(option) {
             return Err(EngineFault::NotStanding);
         }
+        Ok(set)
+    }
+
+    // Leaves one option of a field out.
+    pub fn exclude(&mut self, field: u8, option: u8) -> Result<(), EngineFault>
+        ensures untouched { λ _. ⌜ Untouched (now (self .entry)) (now (self .exit)) ⌝ }
+        ensures answer { λ r. ⌜ Answers (B·Book .meaning (now (self .entry) .book)) (now (self .entry)) (call.Exclude field option) (done r) (now (self .exit)) ⌝ }
+    {
+        let set = self.find(field, option)?;
         let others = set.without(option);
         if others.is_empty() {
             return Err(EngineFault::LastOption);
@@ -61,7 +70,7 @@ impl<B: Book, W: Agenda> Draft<B, W> {
             option,
             cause: Cause::Decided(decision),
         });
-        self.standing[x] = others;
+        self.standing[field as usize] = others;
         self.taken.push_reserved(Taken { decision, mark });
         Ok(())
     }
@@ -71,23 +80,13 @@ impl<B: Book, W: Agenda> Draft<B, W> {
         ensures untouched { λ _. ⌜ Untouched (now (self .entry)) (now (self .exit)) ⌝ }
         ensures answer { λ r. ⌜ Answers (B·Book .meaning (now (self .entry) .book)) (now (self .entry)) (call.Choose field option) (done r) (now (self .exit)) ⌝ }
     {
-        if !self.accepted {
-            return Err(EngineFault::NotOpened);
-        }
-        let x = field as usize;
-        if x >= self.opening.len() || option >= OPTIONS {
-            return Err(EngineFault::OutOfRange);
-        }
-        let set = self.standing[x];
-        if !set.contains(option) {
-            return Err(EngineFault::NotStanding);
-        }
+        let set = self.find(field, option)?;
         if self.taken.len() == DECISIONS {
             return Err(EngineFault::TooManyDecisions);
         }
         let mark = self.strikes.len();
         strike_others(&mut self.strikes, set, field, option);
-        self.standing[x] = OptionSet::only(option);
+        self.standing[field as usize] = OptionSet::only(option);
         self.taken.push_reserved(Taken {
             decision: Decision::Choose { field, option },
             mark,

@@ -1,6 +1,6 @@
 use native.Mathlib.Omega.{arith}
-use mathlib.Core.Path.{_≡_, sym, ap, _∙_}
-use lib.ListN.{length, getD, set}
+use mathlib.Core.Path.{sym, ap, _∙_}
+use lib.ListN.{getD, set}
 use Rattle.std.proofs.shelf.Lists.{set-past}
 use Rattle.network.specs.Network.{words}
 use Rattle.network.specs.Sets.{set-with}

@@ -1,9 +1,8 @@
 use native.Mathlib.Omega.{arith}
-use Prim.Native.Nat.{_+_, suc, _<_}
 use mathlib.Core.Bool.{true, false, not}
 use mathlib.Core.Path.{_≡_, ap, sym, refl, _∙_}
 use mathlib.Core.Logic.{⊎-elim}
-use mathlib.Core.List.{_++_, _∷_, []}
+use mathlib.Core.List.{[], _++_, _∷_}
 use native.Mathlib.Numerals.{add-one}
 use lib.ListN.{length}
 use lib.Dec.{eqb}

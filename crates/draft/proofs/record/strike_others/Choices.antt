@@ -1,7 +1,6 @@
-use Prim.Native.Nat.{_+_, _≤_}
 use mathlib.Core.Path.{_≡_}
 use mathlib.Core.List.{_++_}
-use Rattle.std.specs.Of.Vec.{vec-items, vec-cap, vec-len}
+use Rattle.std.specs.Of.Vec.{vec-items, vec-cap}
 use Rattle.draft.specs.Draft.{strikes-below}
 use Rattle.draft.proofs.record.strike_others.Given as given
 

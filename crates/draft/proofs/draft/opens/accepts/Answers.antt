@@ -1,10 +1,9 @@
 use native.Mathlib.Omega.{arith}
-use Prim.Native.Nat.{_<_, _≤_}
 use mathlib.Core.Bool.{true, false}
 use mathlib.Core.Path.{_≡_, refl, sym, subst}
 use lib.ListN.{length}
 use Rattle.std.proofs.shelf.Tests.{true≢false}
-use Rattle.network.specs.Network.{words, rule-limit}
+use Rattle.network.specs.Network.{words}
 use Rattle.network.proofs.Words.{length-words}
 use Rattle.draft.specs.View.{Between}
 use Rattle.draft.proofs.draft.opens.accepts.Needs as need

@@ -1,0 +1,6 @@
+// Executed examples of drafts.
+
+#[cfg(test)]
+mod calls;
+#[cfg(test)]
+mod openings;
