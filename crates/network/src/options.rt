@@ -22,7 +22,7 @@ impl OptionSet {
     pub fn from_word(word: u32) -> OptionSet
         ensures { λ s. ⌜ s .word ≡ word ⌝ }
     {
-        OptionSet { word }
+        Self { word }
     }
 
     // The word that stands for the set.
@@ -121,7 +121,7 @@ impl OptionSet {
         ensures answer { λ o. ⌜ o ≡ lowest-of (self .word) ⌝ }
         ensures least { λ o. ⌜ Lowest (self .word) o ⌝ }
     {
-        if self.word == 0 {
+        if self.is_empty() {
             return None;
         }
         Some(self.word.trailing_zeros() as u8)
