@@ -52,7 +52,7 @@ fn put_arc<W: Agenda>(sets: &[OptionSet], agenda: &mut W, arc: Arc, field: u8)
     let _ = put_job(agenda, arc, sets[field as usize].len());
 }
 
-// Lets it wait if it is wanted.
+// Lets the arc wait if it is wanted.
 fn put_if<W: Agenda>(sets: &[OptionSet], agenda: &mut W, arc: Arc, field: u8, wanted: bool)
     requires rule { ⌜ arc .rule < rule-limit ⌝ }
     requires field { ⌜ field < length (now sets) ⌝ }
