@@ -1,6 +1,6 @@
 -- What a book tells of a rule that it has.
 use Prim.Native.Nat.{ℕ, _<_}
-use mathlib.Core.Path.{_≡_, refl, sym, ap, subst, _∙_}
+use mathlib.Core.Path.{_≡_, sym, ap, subst, _∙_}
 use mathlib.Core.List.{List}
 use lib.Dec.{T, lt→ltb}
 use Rattle.network.specs.Network.{Rule, rule-at, rule-limit, option-limit, no-field}
@@ -8,9 +8,9 @@ use Rattle.network.specs.declared.rules.Side.{Side}
 use Rattle.network.specs.declared.rules.Side.the-variants.{Left, Right}
 use Rattle.network.proofs.Truth.{and-T}
 use Rattle.books.specs.Reads.{asked, allowed-on, permits-on}
-use Rattle.books.proofs.Asked.{asked-is, allowed-on-by, allows-on, between-fields, permits-T, T-permits}
+use Rattle.books.proofs.Asked.{asked-is, allowed-on-by, permits-T, T-permits}
 use Rattle.propagation.specs.Refusals.{no-fields, unfit}
-use Rattle.propagation.specs.Arcs.{own, across, pairs}
+use Rattle.propagation.specs.Arcs.{pairs}
 
 module _ (rules : List Rule) (r : ℕ) (small : r < rule-limit) where
   pub asked-left : (v : ℕ) → v ≡ asked rules r .left → v ≡ rule-at rules r .left
@@ -18,16 +18,6 @@ module _ (rules : List Rule) (r : ℕ) (small : r < rule-limit) where
 
   pub asked-right : (v : ℕ) → v ≡ asked rules r .right → v ≡ rule-at rules r .right
   asked-right v e = e ∙ ap (λ x. x .right) (asked-is rules r small)
-
-  -- the ends of an arc, by its side
-  module _ (l m : ℕ) (left : l ≡ asked rules r .left) (right : m ≡ asked rules r .right) where
-    pub ends-of-left : (side : Side) → side ≡ Left → (l ≡ own rules side r) × (m ≡ across rules side r)
-    ends-of-left side e =
-        subst (λ s. (l ≡ own rules s r) × (m ≡ across rules s r)) (sym e) (asked-left l left, asked-right m right)
-
-    pub ends-of-right : (side : Side) → side ≡ Right → (m ≡ own rules side r) × (l ≡ across rules side r)
-    ends-of-right side e =
-        subst (λ s. (m ≡ own rules s r) × (l ≡ across rules s r)) (sym e) (asked-right m right, asked-left l left)
 
   told : (side : Side) (a b : ℕ) → allowed-on rules side r a b ≡ permits-on (rule-at rules r) side a b
   told side a b = allowed-on-by rules r (rule-at rules r) (asked-is rules r small) side a b

@@ -1,17 +1,17 @@
 -- Deciding the largest part of given sets: strikes whose causes are tested, and a part that is tested to be arc-consistent.
 use Prim.Native.Nat.{ℕ, zero, suc, _^_, _<_}
 use mathlib.Core.Bool.{Bool, true, false, _&&_, _||_, not}
-use mathlib.Core.Path.{_≡_, refl, sym, ap, subst, _∙_}
+use mathlib.Core.Path.{_≡_, refl, sym, subst}
 use mathlib.Core.Logic.{_⊎_, inl, inr}
 use mathlib.Core.List.{List, [], _∷_}
 use native.Mathlib.Omega.{arith}
 use lib.ListN.{length, getD}
 use lib.Dec.{T, eqb, ltb, ltb→lt, eqb→eq, lit<}
 use Rattle.std.proofs.shelf.Tests.{cases-eq}
-use Rattle.network.specs.Network.{has, Rule, Part, part, Within, Arc-consistent, In-largest, Largest, option-limit}
+use Rattle.network.specs.Network.{has, Rule, part, Arc-consistent, Largest, option-limit}
 use Rattle.network.specs.declared.rules.Side.{Side}
 use Rattle.network.specs.declared.rules.Side.the-variants.{Left, Right}
-use Rattle.network.proofs.Truth.{T-no, T-left, T-right, and-T, no-T}
+use Rattle.network.proofs.Truth.{T-no, T-left, T-right, and-T}
 use Rattle.network.proofs.Bits.{has-below, none-of-zero}
 use Rattle.propagation.specs.Strikes.{without, left-by, Unsupported-at, Holds, Struck}
 use Rattle.propagation.specs.Opening.{Emptied}

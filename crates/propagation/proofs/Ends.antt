@@ -1,6 +1,6 @@
 -- What revising one arc leaves, and what the end of propagation gives.
-use Prim.Native.Nat.{ℕ, _+_, _*_, _^_, _<_, _≤_}
-use mathlib.Core.Bool.{Bool, true, false}
+use Prim.Native.Nat.{ℕ, _<_, _≤_}
+use mathlib.Core.Bool.{true, false}
 use mathlib.Core.Path.{_≡_, refl, sym, ap, subst, _∙_}
 use mathlib.Core.Logic.{inl, inr}
 use mathlib.Core.List.{List, []}
@@ -9,8 +9,9 @@ use lib.ListN.{length, getD}
 use lib.Dec.{T}
 use Rattle.std.specs.declared.vec.Vec.{Vec}
 use Rattle.std.proofs.shelf.Tests.{cases-eq, cases-bool, both-ways}
-use Rattle.network.specs.Network.{has, Rule, Part, part, Within, rule-at, Arc-consistent, In-largest, Largest, option-limit, rule-limit}
+use Rattle.network.specs.Network.{has, Rule, Part, part, Within, rule-at, Arc-consistent, Largest, option-limit}
 use Rattle.network.specs.Sides.{opposite}
+use Rattle.network.specs.declared.rules.Ends.{Ends}
 use Rattle.network.specs.declared.rules.Side.{Side}
 use Rattle.network.specs.declared.rules.Side.the-variants.{Left, Right}
 use Rattle.network.proofs.Truth.{T-no}
@@ -18,12 +19,12 @@ use Rattle.network.proofs.Bits.{none-of-zero, some-bit}
 use Rattle.agenda.specs.Waiting.{Waiting, Same, Nothing, without}
 use Rattle.agenda.specs.Jobs.{arc-number}
 use Rattle.agenda.specs.declared.job.Arc.{Arc}
-use Rattle.agenda.proofs.Waits.{waits-le, waits-without}
-use Rattle.propagation.specs.Strikes.{options, Unsupported-at}
+use Rattle.agenda.proofs.Waits.{waits-le}
+use Rattle.propagation.specs.Strikes.{options}
 use Rattle.propagation.specs.Opening.{Accepted, Emptied, Blamed}
-use Rattle.propagation.specs.Arcs.{own, across, pairs, Arc-ok, Supported, Sound, Arc-at, Only-arcs, Every-arc, Others-ok, Others-but, Neighbours, Still, Elsewhere, number-of}
+use Rattle.propagation.specs.Arcs.{own, across, pairs, Arc-ok, Supported, Sound, Only-arcs, All-below, Listed, Between-fields, Others-ok, Others-but, Neighbours, Still, Elsewhere, number-of}
 use Rattle.propagation.specs.Progress.{Progress, Filled, Settled-on, Wiped-from}
-use Rattle.propagation.specs.Turns.{work, Ready, Turned, Wiped}
+use Rattle.propagation.specs.Turns.{work, Ready, Wiped}
 use Rattle.propagation.specs.declared.record.Strike.{Strike}
 use Rattle.propagation.specs.declared.record.WipedOut.{WipedOut}
 use Rattle.propagation.proofs.Strikes.{keeps, no-larger}
@@ -87,8 +88,8 @@ module _ (rules : List Rule) (s s′ : List ℕ) (arc : Arc) (consistent : Arc-o
         (a, (partner .1 .0, subst (λ z. T (part s′ z a)) (sym (back-across rules (arc .side) (arc .rule) ∙ sym field)) kept))
 
     -- some options were struck, and the other arcs across from which the field lies were put
-    pub others-put : (w w′ : Waiting) → Still w w′ → Neighbours rules (length rules) x (arc .rule) w′ → Others-but rules (part s) w arc → Others-ok rules (part s′) w′
-    others-put w w′ more every others r side lt off =
+    pub others-put : (ends : List Ends) → Listed rules ends → (w w′ : Waiting) → Still w w′ → Neighbours ends (length rules) x (arc .rule) w′ → Others-but rules (part s) w arc → Others-ok rules (part s′) w′
+    others-put ends listed w w′ more every others r side lt off =
         elim (cases-eq (number-of r side) (arc-number arc)) [
           | inl same ↦ the-arc r side same
           | inr ne ↦
@@ -99,7 +100,7 @@ module _ (rules : List Rule) (s s′ : List ℕ) (arc : Arc) (consistent : Arc-o
                     let ok : Arc-ok rules (part s) (opposite (arc .side)) (arc .rule) = subst (λ t. Arc-ok rules (part s) t (arc .rule)) turned (subst (λ q. Arc-ok rules (part s) side q) same (others r side lt ne before)) in
                     subst (λ q. Arc-ok rules (part s′) side q) (sym same) (subst (λ t. Arc-ok rules (part s′) t (arc .rule)) (sym turned) (back-ok ok))
                 | inr other ↦
-                    let far : across rules side r ≡ x → ⊥ = λ e. both-ways _ off (every r side lt other e) in
+                    let far : across rules side r ≡ x → ⊥ = λ e. both-ways _ off (every r side lt other (listed .across r side lt ∙ e)) in
                     λ a t. support-stays rules s s′ side r a (elsewhere _ far) (others r side lt ne before a (shrunk _ _ t))
               ]
         ]
@@ -130,6 +131,13 @@ module _ (rules : List Rule) (sets : List ℕ) (h : Accepted rules sets) where
 
   pub sound-from : Sound rules sets
   sound-from = record { few = h .few; fit = h .fit; rules-few = h .rules-few; own-field = own-is; across-field = across-is; apart = differ }
+
+-- the ends of the rules lie among the fields
+pub listed-between : (rules : List Rule) (sets : List ℕ) (ends : List Ends) → Sound rules sets → Listed rules ends → Between-fields ends (length sets)
+listed-between rules sets ends sound listed = record {
+  few = omega (arith, listed .count, sound .rules-few);
+  fields = λ r side lt. let within : r < length rules = omega (arith, listed .count) in omega (arith, listed .own r side within, sound .own-field r side within);
+}
 
 -- every arc is consistent
 all-consistent : (rules : List Rule) (p : Part) → ((r : ℕ) (side : Side) → r < length rules → Arc-ok rules p side r) → Arc-consistent rules p
@@ -191,7 +199,7 @@ module _ {Z : Type 0} (rules : List Rule) (s s′ : List ℕ) (v v′ : Vec Stri
   }
 
 -- where every arc waits, none is left to be consistent
-pub all-wait : (rules : List Rule) (p : Part) (w : Waiting) → Every-arc rules w → Others-ok rules p w
+pub all-wait : (rules : List Rule) (p : Part) (w : Waiting) → All-below (length rules) w → Others-ok rules p w
 all-wait rules p w every r side lt off = absurd (both-ways _ off (every r side lt))
 
 -- what stands after a done propagation is accepted again

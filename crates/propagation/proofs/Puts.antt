@@ -1,19 +1,18 @@
 -- What waits after arcs were put, and after one was taken.
-use Prim.Native.Nat.{ℕ, _+_, _*_, _<_, _≤_}
-use mathlib.Core.Bool.{Bool, true, false, _&&_, _||_, not, cond}
+use Prim.Native.Nat.{ℕ, _+_, _*_, _<_}
+use mathlib.Core.Bool.{Bool, true, false, _&&_, _||_, not}
 use mathlib.Core.Path.{_≡_, refl, sym, ap, subst, _∙_}
 use mathlib.Core.Logic.{inl, inr}
 use mathlib.Core.List.{List}
 use native.Mathlib.Omega.{arith}
-use lib.ListN.{length}
-use lib.Dec.{eqb, ltb}
-use Rattle.std.proofs.shelf.Tests.{cases-eq, cases-bool, both-ways, eq-eqb, ne-eqb, or-left, or-right, cond-true, cond-false}
-use Rattle.network.specs.Network.{Rule, rule-at}
+use lib.Dec.{eqb}
+use Rattle.std.proofs.shelf.Tests.{cases-eq, cases-bool, eq-eqb, ne-eqb, or-left, or-right, cond-true, cond-false}
+use Rattle.network.specs.declared.rules.Ends.{Ends}
 use Rattle.network.specs.declared.rules.Side.{Side}
 use Rattle.network.specs.declared.rules.Side.the-variants.{Left, Right}
-use Rattle.agenda.specs.Waiting.{Waiting, Same, Nothing, with-one, without}
+use Rattle.agenda.specs.Waiting.{Waiting, Same, without}
 use Rattle.agenda.specs.Jobs.{put-job}
-use Rattle.propagation.specs.Arcs.{across, number-of, Only-arcs, Neighbours, Still}
+use Rattle.propagation.specs.Arcs.{listed-across, number-of, Neighbours, Still}
 
 -- a number was put, if it was wanted
 module _ (w w′ : Waiting) (wanted : Bool) (n : ℕ) (put : Same (put-job w wanted n) w′) where
@@ -68,18 +67,18 @@ module _ (w w₁ w₂ : Waiting) (r : ℕ) (l m : Bool) (one : Same (put-job w l
       here Right = right-on me
 
   -- every arc of the rules up to r that lies across from a field, but for those of one rule
-  pub neighbours-next : (rules : List Rule) (x but : ℕ) →
-      ((r ≡ but → ⊥) → across rules Left r ≡ x → l ≡ true) → ((r ≡ but → ⊥) → across rules Right r ≡ x → m ≡ true) →
-      Neighbours rules r x but w → Neighbours rules (r + 1) x but w₂
-  neighbours-next rules x but le me before q side lt other e =
+  pub neighbours-next : (ends : List Ends) (x but : ℕ) →
+      ((r ≡ but → ⊥) → listed-across ends Left r ≡ x → l ≡ true) → ((r ≡ but → ⊥) → listed-across ends Right r ≡ x → m ≡ true) →
+      Neighbours ends r x but w → Neighbours ends (r + 1) x but w₂
+  neighbours-next ends x but le me before q side lt other e =
       elim (cases-eq q r) [
         | inl same ↦
             subst (λ z. w₂ (number-of z side) ≡ true) (sym same)
-            (here side (λ f. other (same ∙ f)) (subst (λ z. across rules side z ≡ x) same e))
+            (here side (λ f. other (same ∙ f)) (subst (λ z. listed-across ends side z ≡ x) same e))
         | inr ne ↦ both-still _ (before q side (omega arith) other e)
       ]
     where
-      here : (side : Side) → (r ≡ but → ⊥) → across rules side r ≡ x → w₂ (number-of r side) ≡ true
+      here : (side : Side) → (r ≡ but → ⊥) → listed-across ends side r ≡ x → w₂ (number-of r side) ≡ true
       here Left o f = left-on (le o f)
       here Right o f = right-on (me o f)
 

@@ -1,5 +1,5 @@
 -- Progress from sets to sets, by strikes for want of a partner.
-use Prim.Native.Nat.{ℕ, _+_, _-_, _^_, _<_, _≤_}
+use Prim.Native.Nat.{ℕ, _+_, _-_, _^_, _<_}
 use mathlib.Core.Bool.{_&&_, not}
 use mathlib.Core.Path.{_≡_, refl, sym, ap, subst, _∙_}
 use mathlib.Core.Logic.{_⊎_, inl, inr}
@@ -12,7 +12,7 @@ use Rattle.std.specs.declared.vec.Vec.{Vec}
 use Rattle.std.specs.declared.option.Option.the-variants.{Some, None}
 use Rattle.std.proofs.shelf.Tests.{cases-eq, eq-eqb, ne-eqb}
 use Rattle.std.proofs.shelf.Lists.{append-nil, append-assoc, nil-from-length}
-use Rattle.network.specs.Network.{has, Rule, Part, part, Within, rule-at, rule-limit, option-limit}
+use Rattle.network.specs.Network.{has, Rule, Part, part, Within, rule-limit, option-limit}
 use Rattle.network.specs.declared.rules.Side.{Side}
 use Rattle.network.specs.declared.rules.Side.the-variants.{Left, Right}
 use Rattle.network.proofs.Truth.{and-T, T-left, T-right}
@@ -20,7 +20,7 @@ use Rattle.network.proofs.Bits.{has-below, has-less}
 use Rattle.agenda.specs.declared.job.Arc.{Arc}
 use Rattle.books.specs.Reads.{Partner}
 use Rattle.propagation.specs.Strikes.{without, options, Unsupported-at, Struck}
-use Rattle.propagation.specs.Arcs.{own, across, pairs, Supported, Sound, Arc-at, Elsewhere}
+use Rattle.propagation.specs.Arcs.{own, across, Supported, Sound, Arc-at}
 use Rattle.propagation.specs.Progress.{Progress}
 use Rattle.propagation.specs.declared.record.Cause.the-variants.{Unsupported}
 use Rattle.propagation.specs.declared.record.Strike.{Strike}

@@ -1,6 +1,6 @@
 -- What strikes leave.
 use Prim.Native.Nat.{ℕ, zero, suc, _+_, _-_, _^_, _<_, _≤_}
-use mathlib.Core.Bool.{false, _&&_, not}
+use mathlib.Core.Bool.{_&&_, not}
 use mathlib.Core.Path.{_≡_, refl, sym, ap, subst, _∙_}
 use mathlib.Core.Logic.{inl, inr}
 use mathlib.Core.List.{List, [], _∷_, _++_}
@@ -10,7 +10,7 @@ use lib.Count.{ones}
 use lib.Dec.{T, eqb}
 use Rattle.std.proofs.shelf.Tests.{cases-eq, cases-lt, eq-eqb, ne-eqb}
 use Rattle.std.proofs.shelf.Lists.{getD-set-same, getD-set-other, getD-past, length-set}
-use Rattle.network.specs.Network.{has, Rule, Part, part, Within, rule-at, Arc-consistent}
+use Rattle.network.specs.Network.{has, Rule, Part, part, Within, Arc-consistent}
 use Rattle.network.specs.declared.rules.Side.{Side}
 use Rattle.network.specs.declared.rules.Side.the-variants.{Left, Right}
 use Rattle.network.proofs.Truth.{T-no, and-T, T-left, T-right}

@@ -6,6 +6,7 @@ use mathlib.Core.List.{List}
 use lib.ListN.{length, getD}
 use lib.Dec.{T}
 use Rattle.network.specs.Network.{Rule, Part, rule-at, option-limit, field-limit, rule-limit}
+use Rattle.network.specs.declared.rules.Ends.{Ends}
 use Rattle.network.specs.declared.rules.Side.{Side}
 use Rattle.network.specs.declared.rules.Side.the-variants.{Left, Right}
 use Rattle.agenda.specs.Waiting.{Waiting}
@@ -38,14 +39,6 @@ Arc-ok rules p side r = (a : ℕ) → T (p (own rules side r) a) → Supported r
 abbrev pub number-of : ℕ → Side → ℕ
 number-of r side = arc-number (record { rule = r; side = side })
 
--- only arcs of the rules wait
-abbrev pub Only-arcs : List Rule → Waiting → Type 0
-Only-arcs rules w = (k : ℕ) → w k ≡ true → k < 2 * length rules
-
--- every arc of the rules waits
-abbrev pub Every-arc : List Rule → Waiting → Type 0
-Every-arc rules w = (r : ℕ) (side : Side) → r < length rules → w (number-of r side) ≡ true
-
 -- every arc that does not wait is consistent
 abbrev pub Others-ok : List Rule → Part → Waiting → Type 0
 Others-ok rules p w = (r : ℕ) (side : Side) → r < length rules → w (number-of r side) ≡ false → Arc-ok rules p side r
@@ -55,10 +48,45 @@ abbrev pub Others-but : List Rule → Part → Waiting → Arc → Type 0
 Others-but rules p w arc =
     (r : ℕ) (side : Side) → r < length rules → (number-of r side ≡ arc-number arc → ⊥) → w (number-of r side) ≡ false → Arc-ok rules p side r
 
--- every arc that lies across from field x waits, but for those of one rule
-abbrev pub Neighbours : List Rule → ℕ → ℕ → ℕ → Waiting → Type 0
-Neighbours rules count x but w =
-    (r : ℕ) (side : Side) → r < count → (r ≡ but → ⊥) → across rules side r ≡ x → w (number-of r side) ≡ true
+-- what is read past a list of ends
+abbrev pub no-ends : Ends
+no-ends = record { left = 0; right = 0 }
+
+-- the ends of rule r in a list of ends, by side: its own and the one across
+abbrev pub listed-own : List Ends → Side → ℕ → ℕ
+listed-own ends Left r = getD ends r no-ends .left
+listed-own ends Right r = getD ends r no-ends .right
+
+abbrev pub listed-across : List Ends → Side → ℕ → ℕ
+listed-across ends Left r = getD ends r no-ends .right
+listed-across ends Right r = getD ends r no-ends .left
+
+-- a list of ends is that of the rules
+pub record Listed (rules : List Rule) (ends : List Ends) : Type 0 where
+  pub count : length ends ≡ length rules
+  pub own : (r : ℕ) (side : Side) → r < length rules → listed-own ends side r ≡ own rules side r
+  pub across : (r : ℕ) (side : Side) → r < length rules → listed-across ends side r ≡ across rules side r
+
+-- at most 128 of them, each one of n fields
+pub record Between-fields (ends : List Ends) (n : ℕ) : Type 0 where
+  pub few : length ends ≤ rule-limit
+  pub fields : (r : ℕ) (side : Side) → r < length ends → listed-own ends side r < n
+
+-- only arcs of the first n rules wait, and all of those do
+abbrev pub Only-below : ℕ → Waiting → Type 0
+Only-below n w = (k : ℕ) → w k ≡ true → k < 2 * n
+
+abbrev pub All-below : ℕ → Waiting → Type 0
+All-below n w = (r : ℕ) (side : Side) → r < n → w (number-of r side) ≡ true
+
+-- every arc of the first n rules that lies across from field x waits, but for those of one rule
+abbrev pub Neighbours : List Ends → ℕ → ℕ → ℕ → Waiting → Type 0
+Neighbours ends n x but w =
+    (r : ℕ) (side : Side) → r < n → (r ≡ but → ⊥) → listed-across ends side r ≡ x → w (number-of r side) ≡ true
+
+-- only arcs of the rules wait
+abbrev pub Only-arcs : List Rule → Waiting → Type 0
+Only-arcs rules = Only-below (length rules)
 
 -- what waited still waits
 abbrev pub Still : Waiting → Waiting → Type 0

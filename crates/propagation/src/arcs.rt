@@ -1,13 +1,12 @@
 // Arcs on an agenda: which wait, and how urgent they are.
 
 ghost use mathlib.Core.Path.{_≡_};
-ghost use mathlib.Core.Bool.{Bool};
-ghost use Prim.Native.Nat.{ℕ, _<_};
-ghost use lib.ListN.{length};
-ghost use Rattle.network.specs.Network.{words, rule-limit};
+ghost use Prim.Native.Nat.{_<_, _≤_};
+ghost use lib.ListN.{length, take};
+ghost use Rattle.network.specs.Network.{rule-limit};
 ghost use Rattle.agenda.specs.Waiting.{Nothing, Same, with-one};
 ghost use Rattle.agenda.specs.Jobs.{arc-number, put-job};
-ghost use Rattle.propagation.specs.Arcs.{own, across, Sound, Only-arcs, Every-arc, Neighbours, Still};
+ghost use Rattle.propagation.specs.Arcs.{listed-own, listed-across, Listed, Between-fields, Only-below, All-below, Neighbours, Still};
 use agenda::agenda::Agenda;
 use agenda::job::Arc;
 use agenda::job::ArcJob;
@@ -17,16 +16,30 @@ use network::options::OptionSet;
 use network::rules::Ends;
 use network::rules::Side;
 
-// The field of an arc, and the field across.
-pub fn arc_ends<B: Book>(book: &B, arc: Arc) -> (u8, u8)
-    requires { ⌜ arc .rule < rule-limit ⌝ }
-    ensures field { λ e. ⌜ e .0 ≡ own (meaning (now (book .entry))) (arc .side) (arc .rule) ⌝ }
-    ensures other { λ e. ⌜ e .1 ≡ across (meaning (now (book .entry))) (arc .side) (arc .rule) ⌝ }
+// Lists the ends of the book's rules, so that no rule is asked for them twice, and tells how many rules there are.
+pub fn list_ends<B: Book>(book: &B, ends: &mut [Ends]) -> usize
+    requires few { ⌜ length (meaning (now book)) ≤ rule-limit ⌝ }
+    requires room { ⌜ length (meaning (now book)) ≤ length (now ends) ⌝ }
+    ensures count { λ n. ⌜ n ≡ length (meaning (now (book .entry))) ⌝ }
+    ensures listed { λ n. ⌜ Listed (meaning (now (book .entry))) (take n (now (ends .exit))) ⌝ }
 {
-    let ends = book.ends(arc.rule);
+    let count = book.count();
+    for rule in 0..count {
+        ends[rule as usize] = book.ends(rule);
+    }
+    count as usize
+}
+
+// The field of an arc, and the field across.
+pub fn arc_ends(ends: &[Ends], arc: Arc) -> (u8, u8)
+    requires { ⌜ arc .rule < length (now ends) ⌝ }
+    ensures field { λ e. ⌜ e .0 ≡ listed-own (now (ends .entry)) (arc .side) (arc .rule) ⌝ }
+    ensures other { λ e. ⌜ e .1 ≡ listed-across (now (ends .entry)) (arc .side) (arc .rule) ⌝ }
+{
+    let Ends { left, right } = ends[arc.rule as usize];
     match arc.side {
-        Side::Left => (ends.left, ends.right),
-        Side::Right => (ends.right, ends.left),
+        Side::Left => (left, right),
+        Side::Right => (right, left),
     }
 }
 
@@ -39,7 +52,7 @@ fn put_arc<W: Agenda>(sets: &[OptionSet], agenda: &mut W, arc: Arc, field: u8)
     let _ = put_job(agenda, arc, sets[field as usize].len());
 }
 
-// Lets it wait if it is wanted.
+// Lets the arc wait if it is wanted.
 fn put_if<W: Agenda>(sets: &[OptionSet], agenda: &mut W, arc: Arc, field: u8, wanted: bool)
     requires rule { ⌜ arc .rule < rule-limit ⌝ }
     requires field { ⌜ field < length (now sets) ⌝ }
@@ -51,65 +64,65 @@ fn put_if<W: Agenda>(sets: &[OptionSet], agenda: &mut W, arc: Arc, field: u8, wa
 }
 
 // Puts every arc on an agenda on which nothing waits.
-pub fn put_all<B: Book, W: Agenda>(sets: &[OptionSet], book: &B, agenda: &mut W)
-    requires sound { ⌜ Sound (B·Book .meaning (now book)) (words (now sets)) ⌝ }
-    requires nothing { ⌜ Nothing (W·Agenda .waiting (now agenda)) ⌝ }
-    ensures only { λ _. ⌜ Only-arcs (B·Book .meaning (now (book .entry))) (W·Agenda .waiting (now (agenda .exit))) ⌝ }
-    ensures every { λ _. ⌜ Every-arc (B·Book .meaning (now (book .entry))) (W·Agenda .waiting (now (agenda .exit))) ⌝ }
+pub fn put_all<W: Agenda>(sets: &[OptionSet], ends: &[Ends], agenda: &mut W)
+    requires fields { ⌜ Between-fields (now ends) (length (now sets)) ⌝ }
+    requires nothing { ⌜ Nothing (waiting (now agenda)) ⌝ }
+    ensures only { λ _. ⌜ Only-below (length (now (ends .entry))) (waiting (now (agenda .exit))) ⌝ }
+    ensures every { λ _. ⌜ All-below (length (now (ends .entry))) (waiting (now (agenda .exit))) ⌝ }
 {
-    for rule in 0..book.count() {
-        let ends = book.ends(rule);
-        let left = Arc {
+    for rule in 0..ends.len() as u8 {
+        let Ends { left, right } = ends[rule as usize];
+        let on_left = Arc {
             rule,
             side: Side::Left,
         };
-        put_arc(sets, agenda, left, ends.left);
-        let right = Arc {
+        put_arc(sets, agenda, on_left, left);
+        let on_right = Arc {
             rule,
             side: Side::Right,
         };
-        put_arc(sets, agenda, right, ends.right);
+        put_arc(sets, agenda, on_right, right);
     }
 }
 
 // Puts every arc across from which the field lies, but for those of the rule that was just revised: what it struck from
 // the field was nobody's partner there.
-pub fn put_neighbours<B: Book, W: Agenda>(
+pub fn put_neighbours<W: Agenda>(
     sets: &[OptionSet],
-    book: &B,
+    ends: &[Ends],
     agenda: &mut W,
     field: u8,
     revised: u8,
 )
-    requires sound { ⌜ Sound (B·Book .meaning (now book)) (words (now sets)) ⌝ }
-    requires only { ⌜ Only-arcs (B·Book .meaning (now book)) (W·Agenda .waiting (now agenda)) ⌝ }
-    ensures only { λ _. ⌜ Only-arcs (B·Book .meaning (now (book .entry))) (W·Agenda .waiting (now (agenda .exit))) ⌝ }
-    ensures more { λ _. ⌜ Still (W·Agenda .waiting (now (agenda .entry))) (W·Agenda .waiting (now (agenda .exit))) ⌝ }
-    ensures every { λ _. ⌜ Neighbours (B·Book .meaning (now (book .entry))) (length (B·Book .meaning (now (book .entry)))) field revised (W·Agenda .waiting (now (agenda .exit))) ⌝ }
+    requires fields { ⌜ Between-fields (now ends) (length (now sets)) ⌝ }
+    requires only { ⌜ Only-below (length (now ends)) (waiting (now agenda)) ⌝ }
+    ensures only { λ _. ⌜ Only-below (length (now (ends .entry))) (waiting (now (agenda .exit))) ⌝ }
+    ensures more { λ _. ⌜ Still (waiting (now (agenda .entry))) (waiting (now (agenda .exit))) ⌝ }
+    ensures every { λ _. ⌜ Neighbours (now (ends .entry)) (length (now (ends .entry))) field revised (waiting (now (agenda .exit))) ⌝ }
 {
-    for rule in 0..book.count() {
-        let ends = book.ends(rule);
-        let left = Arc {
+    for rule in 0..ends.len() as u8 {
+        let Ends { left, right } = ends[rule as usize];
+        let on_left = Arc {
             rule,
             side: Side::Left,
         };
         put_if(
             sets,
             agenda,
+            on_left,
             left,
-            ends.left,
-            (rule != revised) & (ends.right == field),
+            (rule != revised) & (right == field),
         );
-        let right = Arc {
+        let on_right = Arc {
             rule,
             side: Side::Right,
         };
         put_if(
             sets,
             agenda,
+            on_right,
             right,
-            ends.right,
-            (rule != revised) & (ends.left == field),
+            (rule != revised) & (left == field),
         );
     }
 }

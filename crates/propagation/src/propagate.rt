@@ -8,9 +8,11 @@ ghost use Rattle.std.specs.Results.{Cases as ByOk};
 ghost use Rattle.std.specs.Of.Vec.{vec-len, vec-cap};
 ghost use Rattle.propagation.specs.Strikes.{options};
 ghost use Rattle.propagation.specs.Opening.{Accepted};
+ghost use Rattle.propagation.specs.Arcs.{Listed};
 ghost use Rattle.propagation.specs.Progress.{Progress, Settled-on, Wiped-from};
 ghost use Rattle.propagation.specs.Turns.{Ready, Turned, Wiped};
 use crate::arcs::arc_ends;
+use crate::arcs::list_ends;
 use crate::arcs::put_all;
 use crate::arcs::put_neighbours;
 use crate::record::Strike;
@@ -22,6 +24,8 @@ use agenda::job::ArcJob;
 use agenda::job::take_job;
 use books::book::Book;
 use network::options::OptionSet;
+use network::rules::Ends;
+use network::rules::RULES;
 
 // Revises an arc that was taken from the agenda, and puts the arcs that this may have upset.
 fn turn<B: Book, W: Agenda>(
@@ -29,15 +33,17 @@ fn turn<B: Book, W: Agenda>(
     book: &mut B,
     agenda: &mut W,
     strikes: &mut Vec<Strike>,
+    ends: &[Ends],
     arc: Arc,
 ) -> Result<(), WipedOut>
     requires ready { ⌜ Ready (B·Book .meaning (now book)) (words (now sets)) (W·Agenda .waiting (now agenda)) arc ⌝ }
     requires room { ⌜ vec-len (now strikes) + options (words (now sets)) ≤ vec-cap (now strikes) ⌝ }
+    requires listed { ⌜ Listed (B·Book .meaning (now book)) (now ends) ⌝ }
     ensures same { λ _. ⌜ B·Book .meaning (now (book .exit)) ≡ B·Book .meaning (now (book .entry)) ⌝ }
     ensures progress { λ _. ⌜ Progress (B·Book .meaning (now (book .entry))) (words (now (sets .entry))) (now (strikes .entry)) (words (now (sets .exit))) (now (strikes .exit)) ⌝ }
     ensures cases { λ o. ⌜ ByOk o (λ _. Turned (B·Book .meaning (now (book .entry))) (words (now (sets .entry))) (W·Agenda .waiting (now (agenda .entry))) (words (now (sets .exit))) (W·Agenda .waiting (now (agenda .exit)))) (λ w. Wiped (B·Book .meaning (now (book .entry))) (words (now (sets .exit))) w) ⌝ }
 {
-    let (field, other) = arc_ends(book, arc);
+    let (field, other) = arc_ends(ends, arc);
     if !revise(sets, book, strikes, arc, field, other) {
         return Ok(());
     }
@@ -47,7 +53,7 @@ fn turn<B: Book, W: Agenda>(
             rule: arc.rule,
         });
     }
-    put_neighbours(sets, book, agenda, field, arc.rule);
+    put_neighbours(sets, ends, agenda, field, arc.rule);
     Ok(())
 }
 
@@ -75,10 +81,13 @@ pub fn propagate<B: Book, W: Agenda>(
     ensures progress { λ _. ⌜ Progress (B·Book .meaning (now (book .entry))) (words (now (sets .entry))) (now (strikes .entry)) (words (now (sets .exit))) (now (strikes .exit)) ⌝ }
     ensures answer { λ o. ⌜ ByOk o (λ _. Settled-on (B·Book .meaning (now (book .entry))) (words (now (sets .entry))) (words (now (sets .exit)))) (λ w. Wiped-from (B·Book .meaning (now (book .entry))) (words (now (sets .entry))) w) ⌝ }
 {
+    let mut table = [Ends::nowhere(); RULES as usize];
+    let count = list_ends(book, &mut table);
+    let ends = &table[..count];
     agenda.clear();
-    put_all(sets, book, agenda);
+    put_all(sets, ends, agenda);
     while let Some(arc) = take_job(agenda) {
-        if let Err(wiped) = turn(sets, book, agenda, strikes, arc) {
+        if let Err(wiped) = turn(sets, book, agenda, strikes, ends, arc) {
             agenda.clear();
             return Err(wiped);
         }

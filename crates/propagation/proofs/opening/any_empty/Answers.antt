@@ -2,9 +2,9 @@ use Prim.Native.Nat.{_^_, _<_, _≤_}
 use mathlib.Core.Logic.{inl, inr}
 use borrow.Author.Needs.{needs}
 use borrow.Author.Count.{below-more}
-use mathlib.Core.Path.{_≡_, sym, ap, _∙_}
+use mathlib.Core.Path.{sym, ap, _∙_}
 use native.Mathlib.Omega.{arith}
-use lib.ListN.{length, getD, drop}
+use lib.ListN.{length, getD}
 use Rattle.std.proofs.shelf.Lists.{drop-all}
 use Rattle.network.specs.Network.{words, option-limit}
 use Rattle.network.proofs.Words.{length-words, word-of}

@@ -1,33 +1,38 @@
-use Prim.Native.Nat.{ℕ, _*_, _<_, _≤_}
+use Prim.Native.Nat.{ℕ, _<_, _≤_}
 use mathlib.Core.Bool.{true}
-use mathlib.Core.Path.{_≡_, refl, sym, ap, subst, _∙_}
+use mathlib.Core.Path.{_≡_, refl, sym, subst, _∙_}
 use native.Mathlib.Omega.{arith}
-use lib.ListN.{length}
+use lib.ListN.{take}
 use Rattle.network.specs.Network.{part, words}
-use Rattle.agenda.specs.Waiting.{Nothing}
+use Rattle.network.proofs.Words.{length-words}
 use Rattle.agenda.specs.Jobs.{arc-number, arc-of, arc-fits}
 use Rattle.agenda.proofs.Takes.{none-waits}
 use Rattle.agenda.proofs.Waits.{waits-without}
-use Rattle.propagation.specs.Arcs.{Sound, Only-arcs}
+use Rattle.propagation.specs.Arcs.{Listed, Between-fields, Only-below, All-below}
 use Rattle.propagation.specs.Progress.{Progress}
 use Rattle.propagation.specs.Turns.{Ready, Turned, Wiped, work}
 use Rattle.propagation.proofs.Steps.{progress-none, progress-then, progress-count}
-use Rattle.propagation.proofs.Ends.{sound-from, ready-from, wiped-from, settled-on, all-wait}
+use Rattle.propagation.proofs.Ends.{listed-between, sound-from, ready-from, wiped-from, settled-on, all-wait}
 use Rattle.propagation.proofs.propagate.propagate.Needs as need
 
 pub put-all-requires : need.put-all-requires
 put-all-requires g c κs =
-    record { sound = sound-from (g .B·Book .meaning (c .args .book .now)) (words (c .args .sets .now)) (c .pre .accepted); nothing = c .clear .ensures .waiting }
+    let rules = g .B·Book .meaning (c .args .book .now) in
+    let slice = c .args .sets .now in
+    let between = listed-between rules (words slice) _ (sound-from rules (words slice) (c .pre .accepted)) (c .list-ends-count .ensures .listed) in
+    record { fields = subst (Between-fields _) (length-words slice) between; nothing = c .clear .ensures .waiting }
 
 pub loop-arc-holds : need.loop-arc-holds
 loop-arc-holds g c =
     let rules = g .B·Book .meaning (c .args .book .now) in
-    let s = words (c .args .sets .now) in (
+    let s = words (c .args .sets .now) in
+    let w = g .W·Agenda .waiting (c .put-all .last .agenda) in
+    let count = c .list-ends-count .ensures .listed .count in (
       refl,
       progress-none rules s (c .args .strikes .now),
       c .pre .accepted .filled,
-      c .put-all .ensures .only,
-      all-wait rules (part s) (g .W·Agenda .waiting (c .put-all .last .agenda)) (c .put-all .ensures .every),
+      subst (λ n. Only-below n w) count (c .put-all .ensures .only),
+      all-wait rules (part s) w (subst (λ n. All-below n w) count (c .put-all .ensures .every)),
     )
 
 pub turn-requires : need.turn-requires
@@ -46,6 +51,7 @@ turn-requires g c κs =
     record {
       ready = subst (λ rs. Ready rs s′ w′ arc) (sym (inv .0)) ready;
       room = omega (arith, progress-count rules s s′ v v′ (inv .1), inv .1 .cap, c .pre .room);
+      listed = subst (λ rs. Listed rs (take (c .list-ends-count .result) (c .list-ends-count .last .ends))) (sym (inv .0)) (c .list-ends-count .ensures .listed);
     }
 
 pub returns-in-Err : need.returns-in-Err

@@ -1,10 +1,9 @@
 use Prim.Native.Nat.{ℕ, _-_, _^_, _<_}
-use mathlib.Core.Bool.{not, true, false}
-use mathlib.Core.Path.{_≡_, refl, sym, ap, subst, _∙_}
+use mathlib.Core.Path.{_≡_, refl, sym, subst, _∙_}
 use mathlib.Core.Logic.{inl, inr}
 use native.Mathlib.Omega.{arith}
-use lib.ListN.{length, getD}
-use lib.Dec.{T, eqb}
+use lib.ListN.{length}
+use lib.Dec.{T}
 use Rattle.std.proofs.shelf.Tests.{eqb-true, eqb-false, not-false, not-true}
 use Rattle.network.specs.Network.{has, part, words}
 use Rattle.network.proofs.Truth.{T-no}
