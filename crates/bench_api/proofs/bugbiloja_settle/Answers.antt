@@ -1,6 +1,7 @@
 use Prim.Native.Nat.{ℕ, zero, suc, _*_, _^_, _<_, _≤_}
 use mathlib.Core.List.{List, [], _∷_}
 use native.Mathlib.Omega.{arith}
+use borrow.Author.Needs.{needs}
 use lib.Count.{ones, ones-le}
 use lib.ListN.{length, getD}
 use Rattle.network.specs.Network.{words}
@@ -17,3 +18,6 @@ propagate-requires c κs =
     let accepted = c .in-rest .ensures tt .accepted in
     let few = options-bound (words (c .args .sets .now)) (accepted .fit) in
     record { accepted = accepted; room = omega (arith, few, accepted .few, c .in-Ok .ensures tt .made .1 .0, c .in-Ok .ensures tt .made .1 .1) }
+
+pub returns : need.returns
+returns c = record { settled = λ few. search needs; wiped = λ _. (c .in-Err-propagate .field-0, search needs) }
