@@ -1,11 +1,8 @@
 -- What a draft's ghost fields say, and what they keep saying after a call.
-use Rattle.std.proofs.Common.{◌≡◌, ℕ, ◌+◌, ◌-◌, ◌^◌, ◌<◌, ◌≤◌, Bool, true, false, cond, eqb, leb, List, [], ◌∷◌, ◌++◌, length, get_or, take, drop, set, is_ok, Ok, Err, vec_items, vec_len, vec_capacity, Decides, Result, Vec, sym, refl, ap, ◌∙◌, subst, ⊎_elim, arith, MatchResult}
-use Rattle.std.specs.declared.alloc.AllocError.{AllocError}
-use Rattle.std.specs.declared.alloc.Global.{Global}
+use Rattle.std.proofs.Common.{◌≡◌, ℕ, ◌+◌, ◌-◌, ◌^◌, ◌<◌, ◌≤◌, Bool, true, false, eqb, leb, List, [], ◌∷◌, ◌++◌, length, get_or, take, drop, set, vec_items, vec_len, vec_capacity, sym, refl, ap, ◌∙◌, subst, ⊎_elim, arith}
 use Rattle.std.proofs.lemmas.Nat.{pow_pos}
 use Rattle.std.proofs.lemmas.List.{length-append, get_or_read}
 use Rattle.std.proofs.lemmas.Bool.{cases_Bool, and_from, both_ways, le-leb, eqb-true, eqb-false}
-use Rattle.faults.specs.declared.EngineFault.{EngineFault}
 use Rattle.network.specs.Network.{field_limit, Rule, has, part, words}
 use Rattle.network.specs.declared.options.OptionSet.{OptionSet}
 use Rattle.network.specs.Sets.{set_without}
@@ -15,15 +12,14 @@ use Rattle.network.proofs.Masks.{without_is}
 use Rattle.network.proofs.Words.{length_words, word_of}
 use Rattle.propagation.specs.Strikes.{left_by, Struck}
 use Rattle.propagation.specs.Opening.{Accepted}
-use Rattle.propagation.specs.Progress.{Filled}
-use Rattle.propagation.specs.Undo.{Fit, put_all}
 use Rattle.propagation.specs.declared.record.Decision.{Decision}
 use Rattle.propagation.specs.declared.record.Decision.TheVariants as decision
 use Rattle.propagation.specs.declared.record.Strike.{Strike}
 use Rattle.draft.specs.Draft.{Step, decision_limit, choose_strikes, latest_mark, no_decision}
 use Rattle.draft.specs.Law.{KeepsTheLaw}
-use Rattle.draft.specs.Sound.{stood, rising, record_limit}
-use Rattle.draft.specs.View.{view, Answers, Found}
+use Rattle.draft.specs.Sound.{Fit, Filled, stood, rising, put_all, record_limit}
+use Rattle.draft.specs.View.{view, Answers, Found, Ready}
+use Rattle.draft.specs.declared.draft.opens.Memory.{Memory}
 use Rattle.draft.specs.declared.draft.Draft.{Draft}
 use Rattle.draft.specs.declared.types.Taken.{Taken}
 use Rattle.draft.specs.declared.types.Call.{Call}
@@ -56,48 +52,29 @@ answers_keep_the_law rules d c answer d' a =
     (λ (shut : d.accepted ≡ false). same_keeps_the_law rules (view d) (view d') (a.shut shut).1)
     (cases_Bool d.accepted)
 
--- a check that comes out well just if something holds decides it
-decided_by : (P : Type 0) (r : Result (Unit {0}) EngineFault) → MatchResult r (λ _. P) (λ _. P → ⊥) → Decides (is_ok r) P
-decided_by P (Ok x) h = ((λ _. h), (λ _. refl))
-decided_by P (Err why) h = ((λ e. absurd (both_ways false refl e)), (λ p. absurd (h p)))
-
-pub decides : (P : Type 0) (r : Result (Unit {0}) EngineFault) (y : Bool) → y ≡ is_ok r → MatchResult r (λ _. P) (λ _. P → ⊥) → Decides y P
-decides P r y is h = subst (λ b. Decides b P) (sym is) (decided_by P r h)
-
--- empty memory with room for 16 sets takes what is held of sets that are no more than 16 where they are accepted
-pub taken_in : (accepted : Bool) (rules : List Rule) (sets : List OptionSet) → (accepted ≡ true → Accepted rules (words sets)) → (v v' : Vec OptionSet Global) (r : Result (Unit {0}) AllocError) (more : List OptionSet) → more ≡ cond accepted sets [] →
-    vec_items v ≡ [] → field_limit ≤ vec_capacity v → vec_items v' ≡ cond (is_ok r) (vec_items v ++ more) (vec_items v) → (vec_len v + length more ≤ vec_capacity v → is_ok r ≡ true) → vec_items v' ≡ cond accepted sets []
-taken_in accepted rules sets held v v' r more is empty room items succeeds =
-    let short : length (cond accepted sets []) ≤ field_limit =
-    ⊎_elim
-    (λ (yes : accepted ≡ true). subst (λ b. length (cond b sets []) ≤ field_limit) (sym yes) (omega (arith, (held yes).few, length_words sets)))
-    (λ (no : accepted ≡ false). subst (λ b. length (cond b sets []) ≤ field_limit) (sym no) (omega arith))
-    (cases_Bool accepted) in
-    let ok : is_ok r ≡ true = succeeds (omega (arith, v.ok.0, ap length empty, ap length is, short, room)) in
-    items ∙ ap (λ b. cond b (vec_items v ++ more) (vec_items v)) ok ∙ ap (λ l. l ++ more) empty ∙ is
-
--- a new draft, which holds the sets only if they were accepted
-pub fresh : (accepted : Bool) (rules : List Rule) (sets : List OptionSet) → (accepted ≡ true → Accepted rules (words sets)) → (opening standing : Vec OptionSet Global) (strikes : Vec Strike Global) (taken : Vec Taken Global) →
-    (accepted ≡ true → vec_items opening ≡ sets) → (accepted ≡ true → vec_items standing ≡ sets) → vec_items strikes ≡ [] → record_limit ≤ vec_capacity strikes → vec_items taken ≡ [] → decision_limit ≤ vec_capacity taken →
-    Kept accepted (vec_len opening) (words (vec_items opening)) (words (vec_items standing)) (vec_items strikes) (vec_len strikes) (vec_capacity strikes) (vec_items taken) (vec_len taken) (vec_capacity taken)
-fresh accepted rules sets ok opening standing strikes taken first second unstruck room undecided places =
-    let long : accepted ≡ true → vec_len opening ≡ length (words sets) = λ h. opening.ok.0 ∙ ap length (first h) ∙ sym (length_words sets) in
-    let untouched : accepted ≡ true → words (vec_items standing) ≡ left_by (words (vec_items opening)) (vec_items strikes) =
-    λ h. ap words (second h) ∙ sym (ap (λ ss. left_by (words (vec_items opening)) ss) unstruck ∙ ap words (first h)) in (
-      (λ h. omega (arith, (ok h).some, long h)),
+-- a new draft
+pub fresh : (accepted : Bool) (rules : List Rule) (sets : List OptionSet) → (accepted ≡ true → Accepted rules (words sets)) → (m : Memory) → Ready sets m →
+    Kept accepted (vec_len m.opening) (words (vec_items m.opening)) (words (vec_items m.standing)) (vec_items m.strikes) (vec_len m.strikes) (vec_capacity m.strikes) (vec_items m.taken) (vec_len m.taken) (vec_capacity m.taken)
+fresh accepted rules sets ok m r =
+    let long : vec_len m.opening ≡ length (words sets) = m.opening.ok.0 ∙ ap length r.opening ∙ sym (length_words sets) in
+    let first = ap words r.opening in
+    let same = ap words r.standing in
+    let untouched : words (vec_items m.standing) ≡ left_by (words (vec_items m.opening)) (vec_items m.strikes) =
+    same ∙ sym (ap (λ ss. left_by (words (vec_items m.opening)) ss) r.strikes ∙ first) in (
+      (λ h. let l = (ok h).some in omega arith),
       (
-        (λ h. omega (arith, (ok h).few, long h)),
+        (λ h. let l = (ok h).few in omega arith),
         (
-          (λ h. subst Fit (sym (ap words (first h))) (ok h).fit),
+          (λ h. subst Fit (sym first) (ok h).fit),
           (
-            (λ h. subst Filled (sym (ap words (second h))) (ok h).filled),
+            (λ h. subst Filled (sym same) (ok h).filled),
             (
-              untouched,
+              (λ _. untouched),
               (
-                (λ _. ap (λ ss. stood (words (vec_items opening)) ss) unstruck),
+                (λ _. ap (λ ss. stood (words (vec_items m.opening)) ss) r.strikes),
                 (
-                  (λ _. omega (arith, taken.ok.0, ap length undecided)),
-                  ((λ _. ap (λ ts. rising ts (vec_len strikes)) undecided), ((λ _. room), ((λ _. places), tt))),
+                  (λ _. omega (arith, m.taken.ok.0, ap length r.taken)),
+                  ((λ _. ap (λ ts. rising ts (vec_len m.strikes)) r.taken), ((λ _. r.room), ((λ _. r.places), tt))),
                 ),
               ),
             ),

@@ -27,4 +27,4 @@ pub record Performed {B W : Type 0} (rules : List Rule) (d : Draft B W) (calls :
 pub record Replays {B W : Type 0} (rules : List Rule) (sets : List ℕ) (calls : List Call) (r : Replayed B W) : Type 0 where
   pub accepted : Decides r.draft.accepted (Accepted rules sets)
   pub lawful : Accepted rules sets → (h : List Event) × (MadeOf h calls (vec_items r.answers) × LawfulRun rules sets h (view r.draft))
-  pub shut : (Accepted rules sets → ⊥) → (vec_items r.answers ≡ map (λ _. Refused NotOpened) calls) × (view r.draft ≡ opened [])
+  pub shut : (Accepted rules sets → ⊥) → (vec_items r.answers ≡ map (λ _. Refused NotOpened) calls) × (view r.draft ≡ opened sets)

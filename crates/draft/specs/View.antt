@@ -1,12 +1,14 @@
 -- A draft's fields as the state that the calls speak of, and how a draft answers a call.
-use Rattle.std.specs.Prelude.{◌≡◌, ℕ, ◌<◌, true, false, List, [], length, Some, Ok, Err, vec_items, Decides, Result, slice_index}
+use Rattle.std.specs.Prelude.{◌≡◌, ℕ, ◌<◌, ◌≤◌, true, false, ◌≢◌, List, [], length, Some, Ok, Err, vec_items, vec_capacity, Decides, Result, slice_index}
 use Rattle.faults.specs.declared.EngineFault.{EngineFault}
 use Rattle.faults.specs.declared.EngineFault.TheVariants.{NotOpened}
-use Rattle.network.specs.Network.{option_limit, Rule, part, words}
+use Rattle.network.specs.Network.{option_limit, Rule, rule_at, part, words}
 use Rattle.network.specs.declared.options.OptionSet.{OptionSet}
 use Rattle.propagation.specs.Opening.{Accepted}
-use Rattle.draft.specs.Draft.{State, Step, refusal, opened}
+use Rattle.draft.specs.Draft.{State, Step, refusal, opened, decision_limit}
+use Rattle.draft.specs.Sound.{record_limit}
 use Rattle.draft.specs.declared.draft.Draft.{Draft}
+use Rattle.draft.specs.declared.draft.opens.Memory.{Memory}
 use Rattle.draft.specs.declared.draft.opens.Unopened.{Unopened}
 use Rattle.draft.specs.declared.types.Call.{Call}
 use Rattle.draft.specs.declared.types.Call.TheVariants as call
@@ -56,12 +58,24 @@ pub record Untouched {B W : Type 0} (d d' : Draft B W) : Type 0 where
   pub book : d'.book ≡ d.book
   pub agenda : d'.agenda ≡ d.agenda
 
--- a new draft has the book that was handed in, and is accepted just if its opening is; a refused one holds nothing
+-- every rule lies between two of n fields
+abbrev pub Between : List Rule → ℕ → Type 0
+Between rules n = (r : ℕ) → r < length rules → ((rule_at rules r).left < n) × (((rule_at rules r).right < n) × ((rule_at rules r).left ≢ (rule_at rules r).right))
+
+-- the memory of a draft as it is opened: the sets twice, and room for a full record and for all the decisions that can be in force
+pub record Ready (sets : List OptionSet) (m : Memory) : Type 0 where
+  pub opening : vec_items m.opening ≡ sets
+  pub standing : vec_items m.standing ≡ sets
+  pub strikes : vec_items m.strikes ≡ []
+  pub room : record_limit ≤ vec_capacity m.strikes
+  pub taken : vec_items m.taken ≡ []
+  pub places : decision_limit ≤ vec_capacity m.taken
+
+-- a new draft has the book that was handed in, and is accepted just if its opening is
 pub record Opens {B W : Type 0} (handed : B) (rules : List Rule) (sets : List ℕ) (d : Draft B W) : Type 0 where
   pub book : d.book ≡ handed
   pub accepted : Decides d.accepted (Accepted rules sets)
-  pub state : d.accepted ≡ true → view d ≡ opened sets
-  pub shut : d.accepted ≡ false → view d ≡ opened []
+  pub state : view d ≡ opened sets
 
 -- a draft that was not made gives back what was handed in
 pub record GivenBack {B W : Type 0} (b : B) (w : W) (u : Unopened B W) : Type 0 where

@@ -8,5 +8,3 @@ pub mod Steps
 mod Puts
 pub mod Ends
 mod Deciding
-mod Chaining
-mod Neighbours

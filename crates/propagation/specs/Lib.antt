@@ -6,4 +6,3 @@ pub mod Arcs
 pub mod Progress
 pub mod Turns
 pub mod Examples
-pub mod Chains

@@ -1,21 +1,19 @@
 // Arcs on an agenda: which wait, and how urgent they are.
 
 ghost use Rattle.std.specs.Prelude.{◌≡◌, ◌<◌, ◌≤◌, length, take};
-ghost use Rattle.network.specs.Network.{field_limit, rule_limit};
+ghost use Rattle.network.specs.Network.{rule_limit};
 ghost use Rattle.agenda.specs.Waiting.{Nothing, Same, with_one};
 ghost use Rattle.agenda.specs.Jobs.{arc_number, put_job_lem};
 ghost use Rattle.propagation.specs.Arcs.{listed_own, listed_across, Listed, BetweenFields, OnlyBelow, AllBelow, Neighbours, Still};
-ghost use Rattle.propagation.specs.Chains.{Chained};
 
-use crate::chains::Chains;
 use agenda::agenda::Agenda;
-use agenda::job::{Arc, Job, put_job};
+use agenda::job::{Arc, put_job};
 use books::book::Book;
 use network::options::OptionSet;
 use network::rules::{Ends, Side};
 
 // Lists the ends of the book's rules, so that no rule is asked for them twice, and tells how many rules there are.
-pub(crate) fn list_ends<B: Book>(book: &B, ends: &mut [Ends]) -> usize
+pub fn list_ends<B: Book>(book: &B, ends: &mut [Ends]) -> usize
     requires few { length (meaning book.now) ≤ rule_limit }
     requires room { length (meaning book.now) ≤ length ends.old }
     ensures count { result ≡ length (meaning book.now) }
@@ -29,7 +27,7 @@ pub(crate) fn list_ends<B: Book>(book: &B, ends: &mut [Ends]) -> usize
 }
 
 // The field of an arc, and the field across.
-pub(crate) fn arc_ends(ends: &[Ends], arc: Arc) -> (u8, u8)
+pub fn arc_ends(ends: &[Ends], arc: Arc) -> (u8, u8)
     requires { arc.rule < length ends.now }
     ensures field { result.0 ≡ listed_own ends.now arc.side arc.rule }
     ensures other { result.1 ≡ listed_across ends.now arc.side arc.rule }
@@ -62,7 +60,7 @@ fn put_if<W: Agenda>(sets: &[OptionSet], agenda: &mut W, arc: Arc, field: u8, wa
 }
 
 // Puts every arc on an agenda on which nothing waits.
-pub(crate) fn put_all<W: Agenda>(sets: &[OptionSet], ends: &[Ends], agenda: &mut W)
+pub fn put_all<W: Agenda>(sets: &[OptionSet], ends: &[Ends], agenda: &mut W)
     requires fields { BetweenFields ends.now (length sets.now) }
     requires nothing { Nothing (waiting agenda.old) }
     ensures only { OnlyBelow (length ends.now) (waiting agenda.new) }
@@ -85,26 +83,42 @@ pub(crate) fn put_all<W: Agenda>(sets: &[OptionSet], ends: &[Ends], agenda: &mut
 
 // Puts every arc across from which the field lies, but for those of the rule that was just revised: what it struck from
 // the field was nobody's partner there.
-pub(crate) fn put_neighbours<W: Agenda>(
+pub fn put_neighbours<W: Agenda>(
     sets: &[OptionSet],
     ends: &[Ends],
-    chains: &Chains,
     agenda: &mut W,
     field: u8,
     revised: u8,
 )
     requires fields { BetweenFields ends.now (length sets.now) }
-    requires chained { Chained ends.now chains.now }
-    requires field { field < field_limit }
     requires only { OnlyBelow (length ends.now) (waiting agenda.old) }
     ensures only { OnlyBelow (length ends.now) (waiting agenda.new) }
     ensures more { Still (waiting agenda.old) (waiting agenda.new) }
     ensures every { Neighbours ends.now (length ends.now) field revised (waiting agenda.new) }
 {
-    let mut number = chains.first(field);
-    while let Some(arc) = Arc::of_number(number) {
-        let (own, _) = arc_ends(ends, arc);
-        put_if(sets, agenda, arc, own, arc.rule != revised);
-        number = chains.after(number);
+    for rule in 0..ends.len() as u8 {
+        let Ends { left, right } = ends[rule as usize];
+        let on_left = Arc {
+            rule,
+            side: Side::Left,
+        };
+        put_if(
+            sets,
+            agenda,
+            on_left,
+            left,
+            (rule != revised) & (right == field),
+        );
+        let on_right = Arc {
+            rule,
+            side: Side::Right,
+        };
+        put_if(
+            sets,
+            agenda,
+            on_right,
+            right,
+            (rule != revised) & (left == field),
+        );
     }
 }

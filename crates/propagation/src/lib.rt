@@ -6,7 +6,6 @@
 // Worked examples:                          examples::settle_examples
 // What is written down of it:               record::Strike, record::Cause, record::Decision, record::WipedOut
 mod arcs;
-mod chains;
 pub mod examples;
 pub mod opening;
 pub mod propagate;

@@ -1,4 +1,3 @@
-pub mod Rules
 pub mod Serving
 pub mod Steps
 pub mod Pending

@@ -5,10 +5,10 @@ use Rattle.network.specs.Network.{Rule, rule_at, Part, part, Within, ArcConsiste
 use Rattle.propagation.specs.Opening.{IsWipedOut}
 use Rattle.books.specs.Pairs.{Pairs, pair_rules}
 use Rattle.tightening.specs.Underway.{Covers, Consistent, Probed, Underway}
-use Rattle.tightening.specs.Tightening.{Stands, less_pairs, narrowed, StronglyDual, TightOption, TightPair, Tightest, TightWipedOut}
+use Rattle.tightening.specs.Tightening.{Stands, less_pairs, narrowed, StronglyDual, TightOption, TightPair, Tightest, TightWipedOut, RowsAreExact}
 use Rattle.network.proofs.Truth.{T_yes, and_T, T_left, T_right}
 use Rattle.tightening.proofs.Sets.{field_within}
-use Rattle.tightening.proofs.Theory.{Partner, Supported, arc_supported, in_largest, narrowed_to, covers_start, covers_struck, covers_pruned, covers_empty, probed_after, end_tightest}
+use Rattle.tightening.proofs.Theory.{Partner, Supported, arc_supported, in_largest, narrowed_to, covers_start, covers_struck, covers_pruned, covers_empty, probed_after, end_tightest, tightest_rows}
 
 -- p' and q' are p and q less option a of field x and its pairs
 pub record LessOption (p p' : Part) (q q' : Pairs) (x a : ℕ) : Type 0 where
@@ -274,3 +274,6 @@ tightest_same_options rules sets p p' q q' h k x a t = k.only_options x a (h.all
 
 pub tightest_same_pairs : (rules : List Rule) (sets : List ℕ) (p p' : Part) (q q' : Pairs) → Tightest rules sets p q → Tightest rules sets p' q' → (x a y b : ℕ) → T (q x a y b) → T (q' x a y b)
 tightest_same_pairs rules sets p p' q q' h k x a y b t = k.only_pairs x a y b (h.all_pairs x a y b t)
+
+pub rows_are_exact : RowsAreExact
+rows_are_exact = tightest_rows

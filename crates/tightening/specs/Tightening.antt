@@ -54,3 +54,9 @@ pub record Tightest (rules : List Rule) (sets : List ℕ) (p : Part) (q : Pairs)
 -- the largest strongly dual-consistent part has an empty field
 abbrev pub TightWipedOut : List Rule → List ℕ → Type 0
 TightWipedOut rules sets = (x : ℕ) × ((x < length sets) × ((a : ℕ) → TightOption rules sets x a → ⊥))
+
+-- over an exact part, narrowing a field to a kept option and settling leaves what the option is paired with, and no field empty
+abbrev pub RowsAreExact : Type 0
+RowsAreExact =
+    (rules : List Rule) (sets : List ℕ) (p : Part) (q : Pairs) → Tightest rules sets p q → (x a : ℕ) → T (p x a) →
+    Largest (pair_rules (length sets) q) (narrowed p x a) (row q x a) × ((z : ℕ) → z < length sets → (c : ℕ) × T (row q x a z c))

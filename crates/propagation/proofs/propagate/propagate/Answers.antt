@@ -11,13 +11,6 @@ use Rattle.propagation.proofs.Steps.{progress_none, progress_then, progress_coun
 use Rattle.propagation.proofs.Ends.{listed_between, sound_from, ready_from, wiped_from, settled_on, all_wait}
 use Rattle.propagation.proofs.propagate.propagate.Goals as goal
 
-pub new-chains-requires : goal.new-chains-requires
-new-chains-requires g c =
-    let rules = g.B.Book.meaning c.args.book.now in
-    let sound = sound_from rules (words c.args.sets.now) c.requires.accepted in
-    let between = listed_between rules (words c.args.sets.now) _ sound c.list-ends-count.ensures.listed in
-    record { few = between.few; fields = λ r side lt. omega (arith, between.fields r side lt, sound.few) }
-
 pub put-all-requires : goal.put-all-requires
 put-all-requires g c =
     let rules = g.B.Book.meaning c.args.book.now in
@@ -55,7 +48,6 @@ turn-requires g c =
       ready = subst (λ rs. Ready rs s' w' arc) (sym inv.0) ready;
       room = omega (arith, progress_count rules s s' v v' inv.1, inv.1.cap, c.requires.room);
       listed = subst (λ rs. Listed rs (take c.list-ends-count.result c.list-ends-count.new.ends)) (sym inv.0) c.list-ends-count.ensures.listed;
-      chained = c.new-chains.ensures;
     }
 
 pub returns-in-Err : goal.returns-in-Err

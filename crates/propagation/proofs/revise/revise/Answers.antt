@@ -1,4 +1,4 @@
-use Rattle.std.proofs.Common.{◌≡◌, ℕ, ◌-◌, ◌^◌, ◌<◌, T, length, get_or, sym, refl, ap, ◌∙◌, subst, inl, inr, arith}
+use Rattle.std.proofs.Common.{◌≡◌, ℕ, ◌-◌, ◌^◌, ◌<◌, T, length, sym, refl, ◌∙◌, subst, inl, inr, arith}
 use Rattle.std.proofs.lemmas.Bool.{eqb-true, eqb-false, not-false, not-true}
 use Rattle.network.specs.Network.{has, part, words}
 use Rattle.network.proofs.Truth.{T_no}
@@ -9,10 +9,6 @@ use Rattle.propagation.specs.Arcs.{ArcAt, Supported, across}
 use Rattle.propagation.specs.Progress.{Progress}
 use Rattle.propagation.proofs.Steps.{Walk, walk_start, walk_next, progress_none, progress_then, progress_count, progress_shrinks, progress_still, progress_fewer, at_after, support_stays}
 use Rattle.propagation.proofs.revise.revise.Goals as goal
-
-pub slice-copy-out·partners : goal.slice-copy-out·partners
-slice-copy-out·partners g c =
-    omega (arith, c.requires.at.other, c.requires.at.sound.across_field c.args.arc.rule c.args.arc.side c.requires.at.rule, length_words c.args.sets.now)
 
 pub slice-copy-out·waiting : goal.slice-copy-out·waiting
 slice-copy-out·waiting g c =
@@ -38,18 +34,9 @@ revise-option-requires g c =
     let s = words c.args.sets.now in
     let s' = words c.loop-option.sets in
     let p = c.loop-option.invariant.1 in
-    let arc = c.args.arc in
-    let x = c.args.field in
-    let y = c.args.other in
-    let at = at_after rules s s' c.args.strikes.now c.loop-option.strikes arc x y p c.requires.at in
-    let at' : ArcAt rules s' arc x (across rules arc.side arc.rule) = subst (ArcAt rules s' arc x) at.other at in
-    let within : y < length c.args.sets.now = omega (arith, at.other, c.requires.at.sound.across_field arc.rule arc.side c.requires.at.rule, length_words c.args.sets.now) in
-    let apart : y ≡ x → ⊥ = λ e. at.sound.apart arc.rule arc.side at.rule (sym at.other ∙ e ∙ at.field) in
-    let there : get_or s' y 0 ≡ (get_or c.args.sets.now y (record { word = 0 })).word = c.loop-option.invariant.2 y apart ∙ word_of c.args.sets.now y (record { word = 0 }) within in
-    let there' : get_or s' (across rules arc.side arc.rule) 0 ≡ (get_or c.args.sets.now y (record { word = 0 })).word = ap (λ z. get_or s' z 0) (sym at.other) ∙ there in
+    let at = at_after rules s s' c.args.strikes.now c.loop-option.strikes c.args.arc c.args.field c.args.other p c.requires.at in
     record {
-      at = subst (λ rs. ArcAt rs s' arc x (across rs arc.side arc.rule)) (sym c.loop-option.invariant.0) at';
-      partners = subst (λ rs. get_or s' (across rs arc.side arc.rule) 0 ≡ (get_or c.args.sets.now y (record { word = 0 })).word) (sym c.loop-option.invariant.0) there';
+      at = subst (λ rs. ArcAt rs s' c.args.arc c.args.field c.args.other) (sym c.loop-option.invariant.0) at;
       stands = c.loop-option.invariant.4.stand c.in-Some.option c.in-Some.ensures.least.0;
       room = omega (arith, progress_count rules s s' c.args.strikes.now c.loop-option.strikes p, p.cap, c.requires.room);
     }

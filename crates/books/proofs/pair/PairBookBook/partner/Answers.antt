@@ -27,7 +27,7 @@ returns-in-Left c =
     record {
       same = refl;
       found = pair_from_left n few (words c.args.self.now.words.now) c.args.rule c.in-Some.ends.left c.in-Some.ends.right c.in-Some.ensures.0 c.in-Some.ensures.1
-          c.args.side c.args.option c.args.set.word fits (omega arith) c.in-Left.is c.partner_in_lem.result c.partner_in_lem.ensures;
+          c.args.side c.args.option c.args.set.word fits (omega arith) c.in-Left.is c.partner-in.result c.partner-in.ensures;
     }
 
 pub returns-in-Right : goal.returns-in-Right

@@ -1,5 +1,5 @@
-use Rattle.std.proofs.Common.{◌≡◌, ◌≤◌, false, eqb, length, sym, refl, ap, ◌∙◌, subst, arith}
-use Rattle.catalogue.specs.Content.{any, Fit, no_fields, rule_count}
+use Rattle.std.proofs.Common.{◌≡◌, ◌≤◌, false, eqb, length, sym, ap, ◌∙◌, subst, arith}
+use Rattle.catalogue.specs.Content.{any, no_fields, rule_count}
 use Rattle.catalogue.specs.View.{content}
 use Rattle.catalogue.proofs.Closing.{closes}
 use Rattle.catalogue.proofs.preparation.Preparation.closing_fault.Goals as goal
@@ -14,11 +14,7 @@ returns c =
     let formulas : any (λ f. no_fields (length k.sets.entered) f.left f.right) k.formulas.entered ≡ false =
     ap (λ m. any (λ f. no_fields m f.left f.right) k.formulas.entered) (sym n)
     ∙ ap (any (λ f. no_fields c.len-fields.result f.left f.right)) (sym c.as-slice-else-any-unfit-table.ensures) ∙ sym c.if-any-unfit-formula.ensures in
-    record {
-      answer =
-          sym (closes k (λ e. c.if-fields-eq0.false (n ∙ e)) (omega (arith, c.if-fields.false))
-          (ap (any (λ s. eqb s.word 0)) (sym c.as-slice.ensures) ∙ sym c.if-any-empty.ensures.answer)
-          (omega (arith, c.if-saturating-add.false, c.saturating-add.ensures, c.len.ensures, c.len-2.ensures))
-          tables formulas);
-      fit = λ _. subst Fit c.as-slice.ensures (c.if-any-empty.ensures.fit refl);
-    }
+    sym (closes k (λ e. c.if-fields-eq0.false (n ∙ e)) (omega (arith, c.if-fields.false))
+    (ap (any (λ s. eqb s.word 0)) (sym c.as-slice.ensures) ∙ sym c.if-any-empty.ensures)
+    (omega (arith, c.if-saturating-add.false, c.saturating-add.ensures, c.len.ensures, c.len-2.ensures))
+    tables formulas)
