@@ -5,6 +5,8 @@
 // Put and take any job:     job::put_job, job::take_job
 // First come, first served: first::FirstCome
 // Lowest urgency first:     lowest::LowestUrgency
+#![tactic(auto)]
+
 pub mod agenda;
 pub mod first;
 pub mod job;

@@ -1,4 +1,5 @@
 // Executed examples of both agendas and both kinds of jobs.
+#![tactic(auto)]
 
 #[cfg(test)]
 mod first;

@@ -1,4 +1,5 @@
 // The engine behind one C function, for comparisons of speed. Not part of the product.
+#![tactic(auto)]
 
 ghost use Rattle.std.specs.Prelude.{◌≡◌, ◌<◌};
 ghost use Rattle.network.specs.Network.{words};

@@ -6,6 +6,8 @@
 // Rules by pair words:                  pair::PairBook
 // The rules of one book, then another:  joined::Joined
 // A book that remembers its partners:   remembering::Remembering
+#![tactic(auto)]
+
 pub mod book;
 pub mod formula;
 pub mod joined;

@@ -4,6 +4,8 @@
 // To close:   Preparation::close, which uses the preparation up, or hands it back as it was
 // To read:    closed::Closed with sets, table_book, formula_book
 // Memory:     lent::LentVec, a vector in lent memory
+#![tactic(auto)]
+
 pub mod closed;
 pub mod lent;
 pub mod preparation;

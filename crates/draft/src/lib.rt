@@ -2,6 +2,8 @@
 //
 // A draft, opened and asked:           draft::Draft; draft::opens::Unopened where memory was wanting
 // What a draft is asked and answers:   types::Call, types::Answer, types::Taken
+#![tactic(auto)]
+
 ghost use Rattle.draft.specs.Law.{Law};
 
 pub mod draft;

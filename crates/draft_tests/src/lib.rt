@@ -1,4 +1,5 @@
 // Executed examples of drafts.
+#![tactic(auto)]
 
 #[cfg(test)]
 mod calls;

@@ -4,6 +4,8 @@
 // Passing up:        From turns a line fault into a frame fault, and a frame or engine fault into a program fault;
 //                    the fault above holds the one below whole
 // The number:        number() of each
+#![tactic(auto)]
+
 ghost use Rattle.std.specs.Prelude.{◌≡◌};
 ghost use Rattle.faults.specs.Numbers.{line_number, frame_number, engine_number, program_number};
 ghost use Rattle.faults.specs.declared.FrameFault.TheVariants as frame;

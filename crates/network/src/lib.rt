@@ -4,5 +4,7 @@
 // Parts of a rule:         rules::Side, rules::Ends
 // A formula rule:          rules::FormulaRule, rules::Kind
 // How many there can be:   options::OPTIONS, rules::FIELDS, rules::RULES
+#![tactic(auto)]
+
 pub mod options;
 pub mod rules;

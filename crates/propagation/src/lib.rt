@@ -5,6 +5,8 @@
 // Putting struck options back:              undo::put_back
 // Worked examples:                          examples::settle_examples
 // What is written down of it:               record::Strike, record::Cause, record::Decision, record::WipedOut
+#![tactic(auto)]
+
 mod arcs;
 pub mod examples;
 pub mod opening;

@@ -1,4 +1,6 @@
 // Executed examples of the line layer and the catalogue, kept apart so that neither is proved twice.
+#![tactic(auto)]
+
 #[cfg(test)]
 mod entering;
 #[cfg(test)]

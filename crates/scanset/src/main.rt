@@ -1,4 +1,5 @@
 // The program: lines from standard input, an answer line for each to standard output.
+#![tactic(auto)]
 
 use anyhow::anyhow;
 use catalogue::preparation::Preparation;

@@ -3,6 +3,7 @@
 // Tightening sets and pair words:   tighten::tighten; tighten::check_tightening tells first whether it is refused
 // Why nothing was tightened:        tighten::Untightened
 // What a first choice then shows:   rows_are_exact, a theorem
+#![tactic(auto)]
 
 ghost use Rattle.tightening.specs.Tightening.{RowsAreExact};
 

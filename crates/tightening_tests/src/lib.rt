@@ -1,4 +1,5 @@
 // Executed examples of tightening.
+#![tactic(auto)]
 
 #[cfg(test)]
 mod buffers;

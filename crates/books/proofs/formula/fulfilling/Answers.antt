@@ -14,7 +14,7 @@ returns-in-Equal c b =
     let fits : SFits w16 m = search rules in
     let is : to_z w16 (of_z w16 m) ≡ meeting_on c.args.side c.args.option d =
     to_z-of_z w16 m fits ∙ c.meeting-across.ensures ∙ ap (meeting_on c.args.side c.args.option) (to_z-of_z w8 d small) in
-    equal_chosen c.args.side c.args.option b d c.args.rule.kind (has c.args.set.word b) (has c.starting-at.result.word b) (has 0 b) (has c.up-to.result.word b) _ _ c.in-Equal.is is is (c.starting-at.ensures b) (c.up-to.ensures b)
+    equal_chosen c.args.side c.args.option b d c.args.rule.kind (has c.args.set.word b) (has c.starting_at.result.word b) (has 0 b) (has c.up_to.result.word b) _ _ c.in-Equal.is is is (c.starting_at.ensures b) (c.up_to.ensures b)
 
 pub returns-in-Different : goal.returns-in-Different
 returns-in-Different c b =
@@ -31,8 +31,8 @@ returns-in-Different c b =
     ap (λ x. to_z w16 (of_z w16 (x -ℤ pos 1))) same ∙ to_z-of_z w16 (m -ℤ pos 1) less ∙ ap (λ x. x -ℤ pos 1) is in
     let over : to_z w16 (of_z w16 (to_z w16 (of_z w16 m) +ℤ pos 1)) ≡ meeting_on c.args.side c.args.option d +ℤ pos 1 =
     ap (λ x. to_z w16 (of_z w16 (x +ℤ pos 1))) same ∙ to_z-of_z w16 (m +ℤ pos 1) more ∙ ap (λ x. x +ℤ pos 1) is in
-    different_chosen c.args.side c.args.option b d c.args.rule.kind (has c.args.set.word b) (has c.up-to-in-Different.result.word b) (has c.starting-at-in-Different.result.word b) (has c.union.result.word b) _ _ c.in-Different.is under over (c.up-to-in-Different.ensures b) (c.starting-at-in-Different.ensures b)
-    (ap (λ w. has w b) c.union.ensures ∙ has_or c.up-to-in-Different.result.word c.starting-at-in-Different.result.word b)
+    different_chosen c.args.side c.args.option b d c.args.rule.kind (has c.args.set.word b) (has c.up_to-in-Different.result.word b) (has c.starting_at-in-Different.result.word b) (has c.union.result.word b) _ _ c.in-Different.is under over (c.up_to-in-Different.ensures b) (c.starting_at-in-Different.ensures b)
+    (ap (λ w. has w b) c.union.ensures ∙ has_or c.up_to-in-Different.result.word c.starting_at-in-Different.result.word b)
 
 pub returns-in-AtMost : goal.returns-in-AtMost
 returns-in-AtMost c b =
@@ -42,7 +42,7 @@ returns-in-AtMost c b =
     let fits : SFits w16 m = search rules in
     let is : to_z w16 (of_z w16 m) ≡ meeting_on c.args.side c.args.option d =
     to_z-of_z w16 m fits ∙ c.meeting-across.ensures ∙ ap (meeting_on c.args.side c.args.option) (to_z-of_z w8 d small) in
-    at_most_chosen c.args.side c.args.option b d c.args.rule.kind (has c.args.set.word b) (has 0 b) (has 0 b) (has c.at-most.result.word b) _ c.in-AtMost.is is (c.at-most.ensures b)
+    at_most_chosen c.args.side c.args.option b d c.args.rule.kind (has c.args.set.word b) (has 0 b) (has 0 b) (has c.at_most.result.word b) _ c.in-AtMost.is is (c.at_most.ensures b)
 
 pub returns-in-Apart : goal.returns-in-Apart
 returns-in-Apart c b =
@@ -52,5 +52,5 @@ returns-in-Apart c b =
     let number : c.from-number.result ≡ d = c.from-number.ensures ∙ to_z-of_z w8 d small in
     let under : to_z w16 (of_z w16 (to_z w16 (of_z w16 c.from-own.result) -ℤ to_z w16 (of_z w16 c.from-number.result))) ≡ pos c.args.option -ℤ d = omega (arith, ints) in
     let over : to_z w16 (of_z w16 (to_z w16 (of_z w16 c.from-own.result) +ℤ to_z w16 (of_z w16 c.from-number.result))) ≡ pos c.args.option +ℤ d = omega (arith, ints) in
-    apart_chosen c.args.side c.args.option b d c.args.rule.kind (has c.args.set.word b) (has c.up-to-in-Apart.result.word b) (has c.starting-at-in-Apart.result.word b) (has c.union-in-Apart.result.word b) _ _ c.in-Apart.is under over (c.up-to-in-Apart.ensures b) (c.starting-at-in-Apart.ensures b)
-    (ap (λ w. has w b) c.union-in-Apart.ensures ∙ has_or c.up-to-in-Apart.result.word c.starting-at-in-Apart.result.word b)
+    apart_chosen c.args.side c.args.option b d c.args.rule.kind (has c.args.set.word b) (has c.up_to-in-Apart.result.word b) (has c.starting_at-in-Apart.result.word b) (has c.union-in-Apart.result.word b) _ _ c.in-Apart.is under over (c.up_to-in-Apart.ensures b) (c.starting_at-in-Apart.ensures b)
+    (ap (λ w. has w b) c.union-in-Apart.ensures ∙ has_or c.up_to-in-Apart.result.word c.starting_at-in-Apart.result.word b)

@@ -20,4 +20,4 @@ returns c b =
     let w = c.args.set.word in
     let same = to_z-of_z w16 i c.ranges.number in
     let up : T (non_neg i) = not_negative i (subst (λ x. lt_z x (pos 0) ≡ false) same c.if-number-lt0.false) in
-    ap (λ v. has v b) c.starting-at.ensures ∙ ap (λ x. has (w / 2 ^ nat_abs x * 2 ^ nat_abs x) b) same ∙ has_high w (nat_abs i) b ∙ high_cut w b i up
+    ap (λ v. has v b) c.starting_at.ensures ∙ ap (λ x. has (w / 2 ^ nat_abs x * 2 ^ nat_abs x) b) same ∙ has_high w (nat_abs i) b ∙ high_cut w b i up

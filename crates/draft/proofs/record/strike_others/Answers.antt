@@ -7,8 +7,8 @@ use Rattle.draft.proofs.Choosing.{goes, chosen_out, below_none, below_goes, belo
 use Rattle.draft.proofs.record.strike_others.Goals as goal
 use Rattle.draft.proofs.record.strike_others.Goals.{then-contains+then-other-option, else-contains}
 
-pub push-reserved-requires : goal.push-reserved-requires
-push-reserved-requires c =
+pub push_reserved-requires : goal.push_reserved-requires
+push_reserved-requires c =
     let test : goes c.args.set.word c.args.option c.loop-other.other ≡ true = and_from _ _ (sym c.if-contains.ensures) (not_from_false _ (ne_eqb _ _ c.if-other-option.true)) in
     let room = below_room c.args.set.word c.args.field c.args.option c.loop-other.other c.loop-other-test.true test in
     omega (arith, ap length c.loop-other.invariant.0, length-append (vec_items c.args.strikes.now) (strikes_below c.loop-other.other c.args.set.word c.args.field c.args.option), room)
@@ -23,8 +23,8 @@ loop-other-preserved c =
     elim c.if-contains.branch [
       | then-contains+then-other-option v ↦
           let test : goes w a b ≡ true = and_from _ _ (sym v.if-contains.ensures) (not_from_false _ (ne_eqb _ _ v.if-other-option.true)) in (
-            ap vec_items v.strikes-is ∙ v.push-reserved.ensures.items ∙ ap (λ ss. ss ++ chosen_out x a b ∷ []) c.loop-other.invariant.0 ∙ append_assoc old (strikes_below b w x a) (chosen_out x a b ∷ []) ∙ ap (λ ss. old ++ ss) (sym (ap (λ n. strikes_below n w x a) (add-one b) ∙ below_goes w x a b test)),
-            ap vec_capacity v.strikes-is ∙ v.push-reserved.ensures.capacity ∙ c.loop-other.invariant.1,
+            ap vec_items v.strikes-is ∙ v.push_reserved.ensures.items ∙ ap (λ ss. ss ++ chosen_out x a b ∷ []) c.loop-other.invariant.0 ∙ append_assoc old (strikes_below b w x a) (chosen_out x a b ∷ []) ∙ ap (λ ss. old ++ ss) (sym (ap (λ n. strikes_below n w x a) (add-one b) ∙ below_goes w x a b test)),
+            ap vec_capacity v.strikes-is ∙ v.push_reserved.ensures.capacity ∙ c.loop-other.invariant.1,
           )
       | else-contains v ↦
           let test : goes w a b ≡ false =

@@ -12,11 +12,11 @@ returns-in-Err g c =
     let new = c.propagate.new.strikes in
     let made = c.propagate.ensures.progress in
     let mark : length (vec_items old) ≡ c.len-mark.result = sym (c.len-mark.ensures ∙ old.ok.0) in
-    let found : drop c.len-mark.result c.as-slice.result.now ≡ made.found =
-    ap (drop c.len-mark.result) (c.as-slice.ensures.value ∙ made.items) ∙ drop_at (vec_items old) made.found c.len-mark.result mark in
-    let struck : Struck rules [] (words c.args.sets.now) (drop c.len-mark.result c.as-slice.result.now) (words c.propagate.new.sets) =
+    let found : drop c.len-mark.result c.as_slice.result.now ≡ made.found =
+    ap (drop c.len-mark.result) (c.as_slice.ensures.value ∙ made.items) ∙ drop_at (vec_items old) made.found c.len-mark.result mark in
+    let struck : Struck rules [] (words c.args.sets.now) (drop c.len-mark.result c.as_slice.result.now) (words c.propagate.new.sets) =
     subst (λ l. Struck rules [] (words c.args.sets.now) l (words c.propagate.new.sets)) (sym found) (made.struck []) in
-    let restored : words c.put-back.new.sets ≡ words c.args.sets.now = c.put-back.ensures.restored rules [] (words c.args.sets.now) c.requires.accepted.fit struck in
+    let restored : words c.put_back.new.sets ≡ words c.args.sets.now = c.put_back.ensures.restored rules [] (words c.args.sets.now) c.requires.accepted.fit struck in
     let items : vec_items c.truncate.new.self ≡ vec_items old = c.truncate.ensures.items ∙ ap (take c.len-mark.result) made.items ∙ take_at (vec_items old) made.found c.len-mark.result mark in
     let len : vec_len c.truncate.new.self ≡ vec_len old = omega (arith, c.truncate.ensures.len, c.len-mark.ensures, made.len) in
     let cap : vec_capacity c.truncate.new.self ≡ vec_capacity old = c.truncate.ensures.capacity ∙ made.cap in

@@ -11,10 +11,10 @@ loop-i-preserved c =
     let line = c.args.line.now in
     let done = digits (take i frame) in
     let size : length done ≡ 2 * i = length_digits (take i frame) ∙ ap (λ n. 2 * n) (length-take-le i frame c.loop-i.auto.i-end) in
-    ap (λ l. set (set l (2 * i) c.digit-of.result) (2 * i + 1) c.digit-of-in-loop-i.result) c.loop-i.invariant
-    ∙ written_more done line i c.digit-of.result c.digit-of-in-loop-i.result size (omega (arith, c.requires, c.loop-i-test.true))
-    ∙ ap (λ x. (done ++ x ∷ (c.digit-of-in-loop-i.result ∷ [])) ++ drop (2 * (i + 1)) line) c.digit-of.ensures
-    ∙ ap (λ y. (done ++ digit (get_or frame i 0 / 16) ∷ (y ∷ [])) ++ drop (2 * (i + 1)) line) c.digit-of-in-loop-i.ensures
+    ap (λ l. set (set l (2 * i) c.digit_of.result) (2 * i + 1) c.digit_of-in-loop-i.result) c.loop-i.invariant
+    ∙ written_more done line i c.digit_of.result c.digit_of-in-loop-i.result size (omega (arith, c.requires, c.loop-i-test.true))
+    ∙ ap (λ x. (done ++ x ∷ (c.digit_of-in-loop-i.result ∷ [])) ++ drop (2 * (i + 1)) line) c.digit_of.ensures
+    ∙ ap (λ y. (done ++ digit (get_or frame i 0 / 16) ∷ (y ∷ [])) ++ drop (2 * (i + 1)) line) c.digit_of-in-loop-i.ensures
     ∙ ap (λ l. l ++ drop (2 * (i + 1)) line) (sym (digits_more frame i c.loop-i-test.true))
 
 pub returns : goal.returns

@@ -8,13 +8,13 @@ use Rattle.propagation.proofs.arcs.put_neighbours.Goals as goal
 pub loop-rule-init : goal.loop-rule-init
 loop-rule-init g c = (c.requires.only, λ k h. h, λ r side lt. absurd (omega arith))
 
-pub put-if-requires : goal.put-if-requires
-put-if-requires g c =
+pub put_if-requires : goal.put_if-requires
+put_if-requires g c =
     let within : c.loop-rule.rule < length c.args.ends.now = omega (arith, c.requires.fields.few) in
     record { rule = omega (arith, c.requires.fields.few); field = c.requires.fields.fields c.loop-rule.rule Left within }
 
-pub put-if-requires-in-loop-rule : goal.put-if-requires-in-loop-rule
-put-if-requires-in-loop-rule g c =
+pub put_if-requires-in-loop-rule : goal.put_if-requires-in-loop-rule
+put_if-requires-in-loop-rule g c =
     let within : c.loop-rule.rule < length c.args.ends.now = omega (arith, c.requires.fields.few) in
     record { rule = omega (arith, c.requires.fields.few); field = c.requires.fields.fields c.loop-rule.rule Right within }
 
@@ -33,11 +33,11 @@ loop-rule-preserved g c =
     let on_right : (r ≡ but → ⊥) → listed_across ends Right r ≡ x → m ≡ true =
     λ o e. and_from (not (eqb r but)) _ (not_from_false _ (ne_eqb r but o)) (eq-eqb _ x e) in
     let w₀ = w c.loop-rule.agenda in
-    let w₁ = w c.put-if.new.agenda in
-    let w₂ = w c.put-if-in-loop-rule.new.agenda in (
-      both_below w₀ w₁ w₂ r l m c.put-if.ensures c.put-if-in-loop-rule.ensures (length ends) within c.loop-rule.invariant.0,
-      λ k h. both_still w₀ w₁ w₂ r l m c.put-if.ensures c.put-if-in-loop-rule.ensures k (c.loop-rule.invariant.1 k h),
-      neighbours_next w₀ w₁ w₂ r l m c.put-if.ensures c.put-if-in-loop-rule.ensures ends x but on_left on_right c.loop-rule.invariant.2,
+    let w₁ = w c.put_if.new.agenda in
+    let w₂ = w c.put_if-in-loop-rule.new.agenda in (
+      both_below w₀ w₁ w₂ r l m c.put_if.ensures c.put_if-in-loop-rule.ensures (length ends) within c.loop-rule.invariant.0,
+      λ k h. both_still w₀ w₁ w₂ r l m c.put_if.ensures c.put_if-in-loop-rule.ensures k (c.loop-rule.invariant.1 k h),
+      neighbours_next w₀ w₁ w₂ r l m c.put_if.ensures c.put_if-in-loop-rule.ensures ends x but on_left on_right c.loop-rule.invariant.2,
     )
 
 pub returns : goal.returns

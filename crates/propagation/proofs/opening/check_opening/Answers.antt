@@ -28,12 +28,12 @@ returns-then-fields-eq0 g c =
     let refused = refused_count rules (words sets) counted in
     record { answer = ap answer (sym refused); accepted = refused_not rules (words sets) FieldCount refused }
 
-pub returns-then-any-empty : goal.returns-then-any-empty
-returns-then-any-empty g c =
+pub returns-then-any_empty : goal.returns-then-any_empty
+returns-then-any_empty g c =
     let rules = g.B.Book.meaning c.args.book.now in
     let sets = c.args.sets.now in
     let counted = count_fits sets c.if-fields-eq0.false c.if-fields.false in
-    let refused = refused_empty rules (words sets) counted (sym c.if-any-empty.ensures.answer) in
+    let refused = refused_empty rules (words sets) counted (sym c.if-any_empty.ensures.answer) in
     record { answer = ap answer (sym refused); accepted = refused_not rules (words sets) EmptySet refused }
 
 pub returns-then-count-gt-RULES : goal.returns-then-count-gt-RULES
@@ -42,16 +42,16 @@ returns-then-count-gt-RULES g c =
     let sets = c.args.sets.now in
     let counted = count_fits sets c.if-fields-eq0.false c.if-fields.false in
     let many : rule_limit < length rules = omega (arith, c.if-count-gt-RULES.true, c.count.ensures) in
-    let refused = refused_rules rules (words sets) counted (sym c.if-any-empty.ensures.answer) (lt-ltb rule_limit (length rules) many) in
+    let refused = refused_rules rules (words sets) counted (sym c.if-any_empty.ensures.answer) (lt-ltb rule_limit (length rules) many) in
     record { answer = ap answer (sym refused); accepted = refused_not rules (words sets) RuleCount refused }
 
-pub returns-then-any-unfit : goal.returns-then-any-unfit
-returns-then-any-unfit g c =
+pub returns-then-any_unfit : goal.returns-then-any_unfit
+returns-then-any_unfit g c =
     let rules = g.B.Book.meaning c.args.book.now in
     let sets = c.args.sets.now in
     let counted = count_fits sets c.if-fields-eq0.false c.if-fields.false in
     let few : length rules ≤ rule_limit = omega (arith, c.if-count-gt-RULES.false, c.count.ensures) in
-    let refused = refused_ends rules (words sets) counted (sym c.if-any-empty.ensures.answer) (le-ltb rule_limit (length rules) few) (ap (λ k. any (unfit k) rules) (length_words sets) ∙ sym c.if-any-unfit.ensures) in
+    let refused = refused_ends rules (words sets) counted (sym c.if-any_empty.ensures.answer) (le-ltb rule_limit (length rules) few) (ap (λ k. any (unfit k) rules) (length_words sets) ∙ sym c.if-any_unfit.ensures) in
     record { answer = ap answer (sym refused); accepted = refused_not rules (words sets) UnfitEnds refused }
 
 pub returns : goal.returns
@@ -60,5 +60,5 @@ returns g c =
     let sets = c.args.sets.now in
     let counted = count_fits sets c.if-fields-eq0.false c.if-fields.false in
     let few : length rules ≤ rule_limit = omega (arith, c.if-count-gt-RULES.false, c.count.ensures) in
-    let passed = not_refused rules (words sets) counted (sym c.if-any-empty.ensures.answer) (le-ltb rule_limit (length rules) few) (ap (λ k. any (unfit k) rules) (length_words sets) ∙ sym c.if-any-unfit.ensures) in
-    record { answer = ap answer (sym passed); accepted = passes_accepted rules (words sets) (c.if-any-empty.ensures.fit refl) passed }
+    let passed = not_refused rules (words sets) counted (sym c.if-any_empty.ensures.answer) (le-ltb rule_limit (length rules) few) (ap (λ k. any (unfit k) rules) (length_words sets) ∙ sym c.if-any_unfit.ensures) in
+    record { answer = ap answer (sym passed); accepted = passes_accepted rules (words sets) (c.if-any_empty.ensures.fit refl) passed }

@@ -18,14 +18,14 @@ field_is rules ends arc listed lt x e = e ∙ listed.own arc.rule arc.side lt
 other_is : (rules : List Rule) (ends : List Ends) (arc : Arc) → Listed rules ends → arc.rule < length rules → (y : ℕ) → y ≡ listed_across ends arc.side arc.rule → y ≡ across rules arc.side arc.rule
 other_is rules ends arc listed lt y e = e ∙ listed.across arc.rule arc.side lt
 
-pub arc-ends-field-requires : goal.arc-ends-field-requires
-arc-ends-field-requires g c = omega (arith, c.requires.listed.count, c.requires.ready.rule)
+pub arc_ends-field-requires : goal.arc_ends-field-requires
+arc_ends-field-requires g c = omega (arith, c.requires.listed.count, c.requires.ready.rule)
 
 pub revise-requires : goal.revise-requires
 revise-requires g c =
     let rules = g.B.Book.meaning c.args.book.now in
     let ends = c.args.ends.now in
-    let told = c.arc-ends-field.ensures in
+    let told = c.arc_ends-field.ensures in
     record {
       at = record {
         sound = c.requires.ready.sound;
@@ -59,29 +59,29 @@ pub slice-copy-out·is-empty : goal.slice-copy-out·is-empty
 slice-copy-out·is-empty g c =
     let arc = c.args.arc in
     let h = c.requires.ready.sound.own_field arc.rule arc.side c.requires.ready.rule in
-    omega (arith, field_is (g.B.Book.meaning c.args.book.now) c.args.ends.now c.args.arc c.requires.listed c.requires.ready.rule c.arc-ends-field.result.0 c.arc-ends-field.ensures.field, h, length_words c.args.sets.now)
+    omega (arith, field_is (g.B.Book.meaning c.args.book.now) c.args.ends.now c.args.arc c.requires.listed c.requires.ready.rule c.arc_ends-field.result.0 c.arc_ends-field.ensures.field, h, length_words c.args.sets.now)
 
-pub returns-then-is-empty : goal.returns-then-is-empty
-returns-then-is-empty g c =
+pub returns-then-is_empty : goal.returns-then-is_empty
+returns-then-is_empty g c =
     let slice = c.revise.new.sets in
-    let x = c.arc-ends-field.result.0 in
+    let x = c.arc_ends-field.result.0 in
     let done = c.revise.ensures in
     let arc = c.args.arc in
     let h = c.requires.ready.sound.own_field arc.rule arc.side c.requires.ready.rule in
-    let within : x < length slice = omega (arith, field_is (g.B.Book.meaning c.args.book.now) c.args.ends.now c.args.arc c.requires.listed c.requires.ready.rule c.arc-ends-field.result.0 c.arc-ends-field.ensures.field, h, length_words c.args.sets.now) in
+    let within : x < length slice = omega (arith, field_is (g.B.Book.meaning c.args.book.now) c.args.ends.now c.args.arc c.requires.listed c.requires.ready.rule c.arc_ends-field.result.0 c.arc_ends-field.ensures.field, h, length_words c.args.sets.now) in
     record {
       same = done.same;
       progress = done.progress;
       cases = record {
         side = arc.side;
         rule = c.requires.ready.rule;
-        field = field_is (g.B.Book.meaning c.args.book.now) c.args.ends.now c.args.arc c.requires.listed c.requires.ready.rule c.arc-ends-field.result.0 c.arc-ends-field.ensures.field;
-        empty = word_of slice x (record { word = 0 }) within ∙ eqb-true _ 0 (sym c.if-is-empty.ensures);
+        field = field_is (g.B.Book.meaning c.args.book.now) c.args.ends.now c.args.arc c.requires.listed c.requires.ready.rule c.arc_ends-field.result.0 c.arc_ends-field.ensures.field;
+        empty = word_of slice x (record { word = 0 }) within ∙ eqb-true _ 0 (sym c.if-is_empty.ensures);
       };
     }
 
-pub put-neighbours-requires : goal.put-neighbours-requires
-put-neighbours-requires g c =
+pub put_neighbours-requires : goal.put_neighbours-requires
+put_neighbours-requires g c =
     let rules = g.B.Book.meaning c.args.book.now in
     let ends = c.args.ends.now in
     let count = c.requires.listed.count in
@@ -101,16 +101,16 @@ returns g c =
     let v = c.args.strikes.now in
     let v' = c.revise.new.strikes in
     let w = g.W.Agenda.waiting c.args.agenda.now in
-    let w' = g.W.Agenda.waiting c.put-neighbours.new.agenda in
+    let w' = g.W.Agenda.waiting c.put_neighbours.new.agenda in
     let done = c.revise.ensures in
-    let put = c.put-neighbours.ensures in
+    let put = c.put_neighbours.ensures in
     let p = done.progress in
     let arc = c.args.arc in
-    let x = c.arc-ends-field.result.0 in
+    let x = c.arc_ends-field.result.0 in
     let sound = c.requires.ready.sound in
     let h = sound.own_field arc.rule arc.side c.requires.ready.rule in
-    let within : x < length slice = omega (arith, field_is (g.B.Book.meaning c.args.book.now) c.args.ends.now c.args.arc c.requires.listed c.requires.ready.rule c.arc-ends-field.result.0 c.arc-ends-field.ensures.field, h, length_words c.args.sets.now) in
-    let left : get_or s' x 0 ≡ 0 → ⊥ = λ e. eqb-false _ 0 (sym c.if-is-empty.ensures) (sym (word_of slice x (record { word = 0 }) within) ∙ e) in
+    let within : x < length slice = omega (arith, field_is (g.B.Book.meaning c.args.book.now) c.args.ends.now c.args.arc c.requires.listed c.requires.ready.rule c.arc_ends-field.result.0 c.arc_ends-field.ensures.field, h, length_words c.args.sets.now) in
+    let left : get_or s' x 0 ≡ 0 → ⊥ = λ e. eqb-false _ 0 (sym c.if-is_empty.ensures) (sym (word_of slice x (record { word = 0 }) within) ∙ e) in
     let ends = c.args.ends.now in
     let count = c.requires.listed.count in
     let every : Neighbours ends (length rules) x arc.rule w' = subst (λ n. Neighbours ends n x arc.rule w') count put.every in
@@ -120,7 +120,7 @@ returns g c =
       cases = record {
         filled = filled_after s s' x (progress_length rules s s' v v' p) done.elsewhere left c.requires.ready.filled;
         only = subst (λ n. OnlyBelow n w') count put.only;
-        others = others_put rules s s' arc done.consistent x (field_is (g.B.Book.meaning c.args.book.now) c.args.ends.now c.args.arc c.requires.listed c.requires.ready.rule c.arc-ends-field.result.0 c.arc-ends-field.ensures.field) (sound.apart arc.rule arc.side c.requires.ready.rule) (progress_shrinks rules s s' v v' p) done.elsewhere done.stays ends c.requires.listed w w' put.more every c.requires.ready.others;
+        others = others_put rules s s' arc done.consistent x (field_is (g.B.Book.meaning c.args.book.now) c.args.ends.now c.args.arc c.requires.listed c.requires.ready.rule c.arc_ends-field.result.0 c.arc_ends-field.ensures.field) (sound.apart arc.rule arc.side c.requires.ready.rule) (progress_shrinks rules s s' v v' p) done.elsewhere done.stays ends c.requires.listed w w' put.more every c.requires.ready.others;
         less = work_less s s' w w' (done.changed c.if-not-revise.false);
       };
     }

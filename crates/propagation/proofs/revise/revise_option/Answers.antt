@@ -50,7 +50,7 @@ returns g c =
     let stands = c.requires.stands in
     let within : y < length slice = omega (arith, c.requires.at.other, c.requires.at.sound.across_field arc.rule arc.side c.requires.at.rule, length_words slice) in
     let word = word_of slice y (record { word = 0 }) within in
-    let nobody : Partner rules arc.side arc.rule a (get_or sets y 0) None = subst (λ w. Partner rules arc.side arc.rule a w None) (sym word) c.in-default.ensures.found in
+    let nobody : Partner rules arc.side arc.rule a (get_or sets y 0) None = subst (λ w. Partner rules arc.side arc.rule a w None) (sym word) c.in_default.ensures.found in
     let alone : Supported rules (part sets) arc.side arc.rule a → ⊥ = partner_none rules sets arc x y a c.requires.at stands nobody in
     let sets' = words c.strike.new.sets in
     let done = c.strike.ensures in

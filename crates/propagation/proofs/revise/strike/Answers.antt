@@ -23,7 +23,7 @@ returns c =
     let word = word_of sets x (record { word = 0 }) lt in
     record {
       after = words_set sets x c.without.result ∙ ap (set (words sets) x) (c.without.ensures ∙ ap (λ w. set_without w a) (sym word) ∙ without_is _ a c.requires.stands);
-      items = c.push-reserved.ensures.items;
-      len = c.push-reserved.ensures.len;
-      cap = c.push-reserved.ensures.capacity;
+      items = c.push_reserved.ensures.items;
+      len = c.push_reserved.ensures.len;
+      cap = c.push_reserved.ensures.capacity;
     }

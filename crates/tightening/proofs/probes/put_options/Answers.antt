@@ -35,7 +35,7 @@ loop-option-smaller g c =
 
 pub returns : goal.returns
 returns g c =
-    let none : c.loop-option.rest.word ≡ 0 = c.in-default.ensures.least in
+    let none : c.loop-option.rest.word ≡ 0 = c.in_default.ensures.least in
     record {
       put = c.loop-option.invariant.0;
       all = λ a t. elim (c.loop-option.invariant.2 a t) [

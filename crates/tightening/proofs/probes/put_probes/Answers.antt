@@ -10,8 +10,8 @@ use Rattle.tightening.proofs.probes.put_probes.Goals as goal
 pub loop-field-init : goal.loop-field-init
 loop-field-init g c = (put_none _, λ x a h t. absurd (omega arith))
 
-pub put-options-requires : goal.put-options-requires
-put-options-requires g c =
+pub put_options-requires : goal.put_options-requires
+put_options-requires g c =
     let sets = c.args.options.now in
     let short : c.from-x.result < length sets = search rules in
     let read : get_or (words sets) c.loop-field.field 0 ≡ (get_or sets c.from-x.result (record { word = 0 })).word =
@@ -29,11 +29,11 @@ loop-field-preserved g c =
     let short : c.from-x.result < length sets = search rules in
     let read : get_or (words sets) k 0 ≡ (get_or sets c.from-x.result (record { word = 0 })).word =
     ap (λ i. get_or (words sets) i 0) (sym c.from-x.ensures) ∙ word_of sets c.from-x.result (record { word = 0 }) short in (
-      put_then _ (w c.loop-field.probes) (w c.put-options.new.probes) c.loop-field.invariant.0 c.put-options.ensures.put,
+      put_then _ (w c.loop-field.probes) (w c.put_options.new.probes) c.loop-field.invariant.0 c.put_options.ensures.put,
       λ x a h t. ⊎_elim
-          (λ e. subst (λ y. T (probes_of (w c.put-options.new.probes) y a)) (sym e)
-          (c.put-options.ensures.all a (subst (λ v. T (has v a)) read (subst (λ y. T (part (words sets) y a)) e t))))
-          (λ ne. still_waits (w c.loop-field.probes) (w c.put-options.new.probes) c.put-options.ensures.put x a (c.loop-field.invariant.1 x a (omega arith) t))
+          (λ e. subst (λ y. T (probes_of (w c.put_options.new.probes) y a)) (sym e)
+          (c.put_options.ensures.all a (subst (λ v. T (has v a)) read (subst (λ y. T (part (words sets) y a)) e t))))
+          (λ ne. still_waits (w c.loop-field.probes) (w c.put_options.new.probes) c.put_options.ensures.put x a (c.loop-field.invariant.1 x a (omega arith) t))
           (cases_eq x k),
     )
 

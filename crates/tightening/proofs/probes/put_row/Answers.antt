@@ -16,8 +16,8 @@ pub bounds-pairs-place : goal.bounds-pairs-place
 bounds-pairs-place g c =
     omega (arith, c.place.ensures, place_inside c.args.row _ c.requires.table c.loop-other.other c.loop-other-test.true, c.requires.table.room, length_words c.args.pairs.now)
 
-pub put-options-requires : goal.put-options-requires
-put-options-requires g c =
+pub put_options-requires : goal.put_options-requires
+put_options-requires g c =
     let row = c.args.row in
     let pairs = c.args.pairs.now in
     let y = c.loop-other.other in
@@ -40,11 +40,11 @@ loop-other-preserved g c =
     omega (arith, c.place.ensures, place_inside row _ c.requires.table k c.loop-other-test.true, c.requires.table.room, length_words pairs) in
     let read : (get_or pairs c.place.result (record { word = 0 })).word ≡ word_to row (words pairs) k =
     sym (word_of pairs c.place.result (record { word = 0 }) inside) ∙ ap (λ i. get_or (words pairs) i 0) c.place.ensures in (
-      put_then _ (w c.loop-other.probes) (w c.put-options.new.probes) c.loop-other.invariant.0 c.put-options.ensures.put,
+      put_then _ (w c.loop-other.probes) (w c.put_options.new.probes) c.loop-other.invariant.0 c.put_options.ensures.put,
       λ y b h t. ⊎_elim
-          (λ e. subst (λ z. T (probes_of (w c.put-options.new.probes) z b)) (sym e)
-          (c.put-options.ensures.all b (subst (λ v. T (has v b)) (sym read) (told row (words pairs) c.requires.table k c.loop-other-test.true b (subst (λ z. T (pairs_in row (words pairs) row.field row.option z b)) e t)))))
-          (λ ne. still_waits (w c.loop-other.probes) (w c.put-options.new.probes) c.put-options.ensures.put y b (c.loop-other.invariant.1 y b (omega arith) t))
+          (λ e. subst (λ z. T (probes_of (w c.put_options.new.probes) z b)) (sym e)
+          (c.put_options.ensures.all b (subst (λ v. T (has v b)) (sym read) (told row (words pairs) c.requires.table k c.loop-other-test.true b (subst (λ z. T (pairs_in row (words pairs) row.field row.option z b)) e t)))))
+          (λ ne. still_waits (w c.loop-other.probes) (w c.put_options.new.probes) c.put_options.ensures.put y b (c.loop-other.invariant.1 y b (omega arith) t))
           (cases_eq y k),
     )
 

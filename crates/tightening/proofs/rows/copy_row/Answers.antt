@@ -11,11 +11,11 @@ loop-other-preserved c =
     let sets = c.loop-other.sets in
     let k = c.loop-other.other in
     let i = c.from.result in
-    let v = c.row-set.result in
+    let v = c.row_set.result in
     let inside : i < length (words sets) = omega (arith, c.from.ensures, c.loop-other-test.true, c.loop-other.invariant.0, length_words sets) in (
       length-set sets i v ∙ c.loop-other.invariant.0,
       λ y h. ap (λ ws. get_or ws y 0) (words_set sets i v) ∙ ⊎_elim
-          (λ (e : y ≡ i). ap (λ z. get_or (set (words sets) i v.word) z 0) e ∙ get_or-set_same (words sets) i v.word 0 inside ∙ c.row-set.ensures ∙ ap (λ z. row_word c.args.row (words c.args.pairs.now) z) (sym (e ∙ c.from.ensures)))
+          (λ (e : y ≡ i). ap (λ z. get_or (set (words sets) i v.word) z 0) e ∙ get_or-set_same (words sets) i v.word 0 inside ∙ c.row_set.ensures ∙ ap (λ z. row_word c.args.row (words c.args.pairs.now) z) (sym (e ∙ c.from.ensures)))
           (λ ne. get_or-set_other (words sets) i y v.word 0 ne ∙ c.loop-other.invariant.1 y (omega (arith, ne, c.from.ensures, h)))
           (cases_eq y i),
     )

@@ -84,6 +84,6 @@ loop-with-preserved c =
 pub returns : goal.returns
 returns c =
     record {
-      leaves = step_end c.args.row (words c.args.pairs.now) (words c.loop-with.pairs) c.requires.table c.args.other c.requires.other c.requires.apart (has c.args.keep.word) c.loop-with.waiting.word c.in-default.ensures.least c.loop-with.invariant.0;
+      leaves = step_end c.args.row (words c.args.pairs.now) (words c.loop-with.pairs) c.requires.table c.args.other c.requires.other c.requires.apart (has c.args.keep.word) c.loop-with.waiting.word c.in_default.ensures.least c.loop-with.invariant.0;
       same = c.loop-with.invariant.1;
     }

@@ -9,8 +9,8 @@ use Rattle.tightening.proofs.rows.keep_row.Goals as goal
 pub loop-other-init : goal.loop-other-init
 loop-other-init c = (row_start c.args.row (words c.args.pairs.now) (part (words c.args.sets.now)), inl (λ y h. absurd (omega arith)))
 
-pub keep-toward-requires : goal.keep-toward-requires
-keep-toward-requires c =
+pub keep_toward-requires : goal.keep_toward-requires
+keep_toward-requires c =
     let row = c.args.row in
     let first = words c.args.pairs.now in
     record {
@@ -33,7 +33,7 @@ loop-other-preserved c =
           let mask = (get_or c.args.sets.now w.from.result (record { word = 0 })).word in
           let is : (b : ℕ) → has mask b ≡ l k b = λ b. ap (λ m. has m b) (sym (word_of c.args.sets.now w.from.result (record { word = 0 }) short)) ∙ ap (λ i. l i b) place in
           subst (λ ps. Leaves row.fields first (words ps) (less_below (pairs_in row first) row.field row.option l (k + 1)) × LostBelow row first l (k + 1) (words ps)) (sym w.pairs-is)
-          (row_more row first (words c.loop-other.pairs) l k c.requires.pairs c.loop-other.invariant.0 c.loop-other.invariant.1 (words w.keep-toward.new.pairs) mask is (λ e. w.if-other-row.true (sym e)) w.keep-toward.ensures.leaves w.keep-toward.ensures.lost)
+          (row_more row first (words c.loop-other.pairs) l k c.requires.pairs c.loop-other.invariant.0 c.loop-other.invariant.1 (words w.keep_toward.new.pairs) mask is (λ e. w.if-other-row.true (sym e)) w.keep_toward.ensures.leaves w.keep_toward.ensures.lost)
       | else-other-row w ↦
           subst (λ ps. Leaves row.fields first (words ps) (less_below (pairs_in row first) row.field row.option l (k + 1)) × LostBelow row first l (k + 1) (words ps)) (sym w.pairs-is)
           (row_own row first (words c.loop-other.pairs) l k c.requires.pairs c.loop-other.invariant.0 c.loop-other.invariant.1 w.if-other-row.false)

@@ -38,4 +38,4 @@ loop-other-smaller g c =
 
 pub returns : goal.returns
 returns g c =
-    kept_end (allowed (g.B.Book.meaning c.args.book.now) c.args.rule c.args.option) c.args.set.word c.loop-other.waiting.word c.loop-other.passing.word c.in-default.ensures.least c.loop-other.invariant
+    kept_end (allowed (g.B.Book.meaning c.args.book.now) c.args.rule c.args.option) c.args.set.word c.loop-other.waiting.word c.loop-other.passing.word c.in_default.ensures.least c.loop-other.invariant

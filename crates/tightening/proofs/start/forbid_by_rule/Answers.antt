@@ -33,8 +33,8 @@ loop-option-init g c =
     let waits : get_or (words sets) (rule_at rules k).left 0 ≡ (get_or sets x (record { word = 0 })).word = ap (λ z. get_or (words sets) z 0) (sym ends.left) ∙ word_of sets x (record { word = 0 }) ends.left_is_field in
     subst (λ w. PartWay rules (words sets) k (length sets) pairs w pairs) waits (part_way_start rules (words sets) k (length sets) pairs (length_words sets) c.requires.rule c.requires.pairs)
 
-pub keep-toward-requires : goal.keep-toward-requires
-keep-toward-requires g c =
+pub keep_toward-requires : goal.keep_toward-requires
+keep_toward-requires g c =
     let rules = g.B.Book.meaning c.args.book.now in
     let k = c.args.rule in
     let ok = c.requires.accepted in
@@ -65,19 +65,19 @@ loop-option-preserved g c =
     let sets = c.args.sets.now in
     let first = words c.args.pairs.now in
     let pairs = words c.loop-option.pairs in
-    let left = words c.keep-toward.new.pairs in
+    let left = words c.keep_toward.new.pairs in
     let x = c.ends-ends.result.left in
     let y = c.ends-ends.result.right in
     let ends = ends_told rules (words sets) k ok c.requires.rule (length sets) x y (length_words sets) c.ends-ends.ensures.left c.ends-ends.ensures.right in
     let w = c.loop-option.waiting.word in
     let d = c.in-Some.option in
-    let keep = c.allowed-with-keep.result.word in
+    let keep = c.allowed_with-keep.result.word in
     let h = c.in-Some.ensures.least.0 in
     let small : d < 32 = has_below 32 (get_or (words sets) (rule_at rules k).left 0) d (ok.fit (rule_at rules k).left) (c.loop-option.invariant.of_set d h) in
     let across : (get_or sets y (record { word = 0 })).word ≡ get_or (words sets) (rule_at rules k).right 0 = sym (word_of sets y (record { word = 0 }) ends.right_is_field) ∙ ap (λ z. get_or (words sets) z 0) ends.right in
-    let told = keep_tells rules (words sets) k ok c.requires.rule d keep small (λ b. c.allowed-with-keep.ensures b ∙ ap (λ v. has v b && allowed rules k d b) across) in
+    let told = keep_tells rules (words sets) k ok c.requires.rule d keep small (λ b. c.allowed_with-keep.ensures b ∙ ap (λ v. has v b && allowed rules k d b) across) in
     subst (λ v. PartWay rules (words sets) k (length sets) first v left) (sym c.in-Some.ensures.after)
-    (part_way_step rules (words sets) k (length sets) first pairs left w d x y keep h ends.left ends.right told c.keep-toward.ensures.leaves c.loop-option.invariant)
+    (part_way_step rules (words sets) k (length sets) first pairs left w d x y keep h ends.left ends.right told c.keep_toward.ensures.leaves c.loop-option.invariant)
 
 pub loop-option-smaller : goal.loop-option-smaller
 loop-option-smaller g c =
@@ -88,6 +88,6 @@ returns g c =
     let rules = g.B.Book.meaning c.args.book.now in
     let sets = c.args.sets.now in
     record {
-      pairs = part_way_end rules (words sets) c.args.rule (length sets) (words c.args.pairs.now) c.loop-option.waiting.word (words c.loop-option.pairs) (length_words sets) c.requires.rule c.in-default.ensures.least c.loop-option.invariant;
+      pairs = part_way_end rules (words sets) c.args.rule (length sets) (words c.args.pairs.now) c.loop-option.waiting.word (words c.loop-option.pairs) (length_words sets) c.requires.rule c.in_default.ensures.least c.loop-option.invariant;
       rest = c.loop-option.invariant.rest;
     }

@@ -6,22 +6,22 @@ use Rattle.tightening.specs.Start.{Standing}
 use Rattle.tightening.proofs.Starting.{beyond_both}
 use Rattle.tightening.proofs.start.stand_at_start.Goals as goal
 
-pub start-pairs-requires : goal.start-pairs-requires
-start-pairs-requires g c = record { few = omega (arith, c.requires.accepted.few, length_words c.args.sets.now); fit = c.requires.accepted.fit; room = c.requires.room }
+pub start_pairs-requires : goal.start_pairs-requires
+start_pairs-requires g c = record { few = omega (arith, c.requires.accepted.few, length_words c.args.sets.now); fit = c.requires.accepted.fit; room = c.requires.room }
 
 pub loop-rule-init : goal.loop-rule-init
-loop-rule-init g c = (c.start-pairs.ensures.pairs, record { beyond = refl; long = refl })
+loop-rule-init g c = (c.start_pairs.ensures.pairs, record { beyond = refl; long = refl })
 
-pub forbid-by-rule-requires : goal.forbid-by-rule-requires
-forbid-by-rule-requires g c = record {
+pub forbid_by_rule-requires : goal.forbid_by_rule-requires
+forbid_by_rule-requires g c = record {
   accepted = c.requires.accepted;
   rule = omega (arith, c.count-rule-end.ensures, c.requires.accepted.rules_few, c.loop-rule-test.true);
-  room = omega (arith, c.requires.room, c.start-pairs.ensures.rest.long, c.loop-rule.invariant.1.long);
+  room = omega (arith, c.requires.room, c.start_pairs.ensures.rest.long, c.loop-rule.invariant.1.long);
   pairs = c.loop-rule.invariant.0;
 }
 
 pub loop-rule-preserved : goal.loop-rule-preserved
-loop-rule-preserved g c = (c.forbid-by-rule.ensures.pairs, beyond_both _ _ _ _ c.loop-rule.invariant.1 c.forbid-by-rule.ensures.rest)
+loop-rule-preserved g c = (c.forbid_by_rule.ensures.pairs, beyond_both _ _ _ _ c.loop-rule.invariant.1 c.forbid_by_rule.ensures.rest)
 
 pub returns : goal.returns
 returns g c =
@@ -29,5 +29,5 @@ returns g c =
     let past : length rules ≤ c.loop-rule.rule = omega (arith, c.count-rule-end.ensures, c.requires.accepted.rules_few, c.loop-rule-test.false) in
     record {
       pairs = subst (λ rs. Standing rs (words c.args.sets.now) (words c.loop-rule.pairs)) (take_all c.loop-rule.rule rules past) c.loop-rule.invariant.0;
-      rest = beyond_both _ _ _ _ c.start-pairs.ensures.rest c.loop-rule.invariant.1;
+      rest = beyond_both _ _ _ _ c.start_pairs.ensures.rest c.loop-rule.invariant.1;
     }

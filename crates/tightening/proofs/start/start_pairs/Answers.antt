@@ -19,8 +19,8 @@ loop-place-preserved c =
     let i = c.loop-place.place in
     let inside : i < length (words pairs) =
     omega (arith, c.requires.room, c.loop-place.auto.pairs, c.loop-place-test.true, length_words c.args.pairs.now, length_words pairs) in
-    subst (Written sets first _) (sym (words_set pairs i c.first-word.result))
-    (written_more sets first i (words pairs) c.first-word.result.word inside c.first-word.ensures c.loop-place.invariant)
+    subst (Written sets first _) (sym (words_set pairs i c.first_word.result))
+    (written_more sets first i (words pairs) c.first_word.result.word inside c.first_word.ensures c.loop-place.invariant)
 
 pub returns : goal.returns
 returns c =

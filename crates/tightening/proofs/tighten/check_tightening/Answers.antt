@@ -44,6 +44,6 @@ returns g c =
     let fits = count_fits sets c.if-fields-eq0.false (omega (arith, c.if-fields.false)) in
     let enough : ltb (length (words pairs)) (length (words sets) * words_a_field_lem) ≡ false = le-ltb _ _ (omega (arith, length_words sets, length_words pairs, c.if-pairs-fields.false)) in
     record {
-      answer = c.check-opening.ensures.answer ∙ sym (ap answer (cond-false _ (Some FieldCount) _ fits ∙ cond-false _ (Some ShortBuffer) _ enough));
-      accepted = both_hold _ _ _ c.check-opening.result c.check-opening.ensures.accepted (omega (arith, length_words pairs, c.if-pairs-fields.false));
+      answer = c.check_opening.ensures.answer ∙ sym (ap answer (cond-false _ (Some FieldCount) _ fits ∙ cond-false _ (Some ShortBuffer) _ enough));
+      accepted = both_hold _ _ _ c.check_opening.result c.check_opening.ensures.accepted (omega (arith, length_words pairs, c.if-pairs-fields.false));
     }

@@ -53,19 +53,19 @@ returns-in-Kept g c =
     sym (word_of sets c.from-x.result (record { word = 0 }) inside) ∙ ap (λ i. get_or (words sets) i 0) c.from-x.ensures in
     let kept : T (part (words sets) probe.field probe.option) =
     subst (λ w. T (has w probe.option)) read (T_yes _ (sym c.contains.ensures ∙ c.if-not-contains.false)) in
-    let trial = words c.copy-row.new.sets in
-    let long : length trial ≡ length sets = length_words c.copy-row.new.sets ∙ c.copy-row.ensures.length in
-    let last = words c.try-out.new.sets in
-    let same_long : length last ≡ length trial = length_words c.try-out.new.sets ∙ c.try-out.ensures.length ∙ sym (length_words c.copy-row.new.sets) in
+    let trial = words c.copy_row.new.sets in
+    let long : length trial ≡ length sets = length_words c.copy_row.new.sets ∙ c.copy_row.ensures.length in
+    let last = words c.try_out.new.sets in
+    let same_long : length last ≡ length trial = length_words c.try_out.new.sets ∙ c.try_out.ensures.length ∙ sym (length_words c.copy_row.new.sets) in
     let w₁ = g.V.Agenda.waiting c.args.probes.now in
     let tried = c.in-Kept.ensures.tried in
-    let settled = subst (λ k. SettledOn (pair_rules k (pairs_of k pairs)) trial last) (sym (length_words c.copy-row.new.sets)) tried.0 in
+    let settled = subst (λ k. SettledOn (pair_rules k (pairs_of k pairs)) trial last) (sym (length_words c.copy_row.new.sets)) tried.0 in
     record {
-      lengths = (refl, c.try-out.ensures.length ∙ c.copy-row.auto.sets);
-      strikes = c.try-out.ensures.room;
+      lengths = (refl, c.try_out.ensures.length ∙ c.copy_row.auto.sets);
+      strikes = c.try_out.ensures.room;
       rest = beyond_same _ _;
       put = put_none _;
-      between = λ rules first w taken b. (between_kept rules first r (words sets) pairs trial w w₁ b at taken kept long c.copy-row.ensures.words last same_long settled tried.1, same_work (words sets) pairs w₁);
+      between = λ rules first w taken b. (between_kept rules first r (words sets) pairs trial w w₁ b at taken kept long c.copy_row.ensures.words last same_long settled tried.1, same_work (words sets) pairs w₁);
       filled = λ _ f. f;
       emptied = λ e. absurd (true≢false e);
     }
@@ -83,22 +83,22 @@ returns-in-Lost g c =
     sym (word_of sets c.from-x.result (record { word = 0 }) inside) ∙ ap (λ i. get_or (words sets) i 0) c.from-x.ensures in
     let kept : T (part (words sets) probe.field probe.option) =
     subst (λ w. T (has w probe.option)) read (T_yes _ (sym c.contains.ensures ∙ c.if-not-contains.false)) in
-    let trial = words c.copy-row.new.sets in
-    let long : length trial ≡ length sets = length_words c.copy-row.new.sets ∙ c.copy-row.ensures.length in
-    let last = words c.try-out.new.sets in
-    let same_long : length last ≡ length trial = length_words c.try-out.new.sets ∙ c.try-out.ensures.length ∙ sym (length_words c.copy-row.new.sets) in
+    let trial = words c.copy_row.new.sets in
+    let long : length trial ≡ length sets = length_words c.copy_row.new.sets ∙ c.copy_row.ensures.length in
+    let last = words c.try_out.new.sets in
+    let same_long : length last ≡ length trial = length_words c.try_out.new.sets ∙ c.try_out.ensures.length ∙ sym (length_words c.copy_row.new.sets) in
     let w₁ = g.V.Agenda.waiting c.args.probes.now in
     let tried = c.in-Lost.ensures.tried in
-    let settled = subst (λ k. SettledOn (pair_rules k (pairs_of k pairs)) trial last) (sym (length_words c.copy-row.new.sets)) tried.0 in
-    let pairs' = words c.take-away.new.pairs in
+    let settled = subst (λ k. SettledOn (pair_rules k (pairs_of k pairs)) trial last) (sym (length_words c.copy_row.new.sets)) tried.0 in
+    let pairs' = words c.take_away.new.pairs in
     record {
-      lengths = (refl, c.try-out.ensures.length ∙ c.copy-row.auto.sets);
-      strikes = c.try-out.ensures.room;
-      rest = beyond_left _ pairs pairs' _ c.take-away.ensures.leaves;
-      put = c.take-away.ensures.put;
+      lengths = (refl, c.try_out.ensures.length ∙ c.copy_row.auto.sets);
+      strikes = c.try_out.ensures.room;
+      rest = beyond_left _ pairs pairs' _ c.take_away.ensures.leaves;
+      put = c.take_away.ensures.put;
       between = λ rules first w taken b. (
-        between_lost rules first r (words sets) pairs trial w w₁ b at taken kept long c.copy-row.ensures.words _ c.take-away.ensures.put c.take-away.ensures.all last pairs' same_long settled c.take-away.ensures.leaves,
-        fewer_work (words sets) pairs (words sets) pairs' w₁ _ (omega (arith, lost_fewer rules first r (words sets) pairs trial w w₁ b at taken kept long c.copy-row.ensures.words last pairs' same_long settled tried.1 c.take-away.ensures.lost)),
+        between_lost rules first r (words sets) pairs trial w w₁ b at taken kept long c.copy_row.ensures.words _ c.take_away.ensures.put c.take_away.ensures.all last pairs' same_long settled c.take_away.ensures.leaves,
+        fewer_work (words sets) pairs (words sets) pairs' w₁ _ (omega (arith, lost_fewer rules first r (words sets) pairs trial w w₁ b at taken kept long c.copy_row.ensures.words last pairs' same_long settled tried.1 c.take_away.ensures.lost)),
       );
       filled = λ _ f. f;
       emptied = λ e. absurd (true≢false e);
@@ -117,28 +117,28 @@ returns g c =
     sym (word_of sets c.from-x.result (record { word = 0 }) inside) ∙ ap (λ i. get_or (words sets) i 0) c.from-x.ensures in
     let kept : T (part (words sets) probe.field probe.option) =
     subst (λ w. T (has w probe.option)) read (T_yes _ (sym c.contains.ensures ∙ c.if-not-contains.false)) in
-    let trial = words c.copy-row.new.sets in
-    let long : length trial ≡ length sets = length_words c.copy-row.new.sets ∙ c.copy-row.ensures.length in
-    let last = words c.try-out.new.sets in
-    let same_long : length last ≡ length trial = length_words c.try-out.new.sets ∙ c.try-out.ensures.length ∙ sym (length_words c.copy-row.new.sets) in
+    let trial = words c.copy_row.new.sets in
+    let long : length trial ≡ length sets = length_words c.copy_row.new.sets ∙ c.copy_row.ensures.length in
+    let last = words c.try_out.new.sets in
+    let same_long : length last ≡ length trial = length_words c.try_out.new.sets ∙ c.try_out.ensures.length ∙ sym (length_words c.copy_row.new.sets) in
     let w₁ = g.V.Agenda.waiting c.args.probes.now in
-    let wiped = subst (λ k. IsWipedOut (pair_rules k (pairs_of k pairs)) (length trial) (part trial)) (sym (length_words c.copy-row.new.sets)) c.in-Emptied.ensures.tried in
-    let none = words c.empty-all.new.sets in
-    let pairs' = words c.take-away-2.new.pairs in
+    let wiped = subst (λ k. IsWipedOut (pair_rules k (pairs_of k pairs)) (length trial) (part trial)) (sym (length_words c.copy_row.new.sets)) c.in-Emptied.ensures.tried in
+    let none = words c.empty_all.new.sets in
+    let pairs' = words c.take_away-2.new.pairs in
     let struck : words (set sets c.from-x.result c.without.result) ≡ without (words sets) probe.field probe.option =
     words_set sets c.from-x.result c.without.result ∙ ap (λ v. set (words sets) c.from-x.result v) (c.without.ensures ∙ ap (λ w. set_without w probe.option) read ∙ without_is _ probe.option kept)
     ∙ ap (λ i. set (words sets) i (get_or (words sets) probe.field 0 - 2 ^ probe.option)) c.from-x.ensures in
     let now : (get_or (set sets c.from-x.result c.without.result) c.from-x.result (record { word = 0 })).word ≡ c.without.result.word =
     ap (λ s. s.word) (get_or-set_same sets c.from-x.result c.without.result (record { word = 0 }) inside) in
     record {
-      lengths = (length-set sets _ _, c.empty-all.ensures.length ∙ c.try-out.ensures.length ∙ c.copy-row.auto.sets);
-      strikes = c.try-out.ensures.room;
-      rest = beyond_left _ pairs pairs' _ c.take-away-2.ensures.leaves;
-      put = c.take-away-2.ensures.put;
+      lengths = (length-set sets _ _, c.empty_all.ensures.length ∙ c.try_out.ensures.length ∙ c.copy_row.auto.sets);
+      strikes = c.try_out.ensures.room;
+      rest = beyond_left _ pairs pairs' _ c.take_away-2.ensures.leaves;
+      put = c.take_away-2.ensures.put;
       between = λ rules first w taken b. (
-        between_struck rules first r (words sets) pairs trial w w₁ b at taken kept long c.copy-row.ensures.words _ c.take-away-2.ensures.put c.take-away-2.ensures.all none pairs' _ wiped c.empty-all.ensures.empty c.take-away-2.ensures.leaves struck,
-        fewer_work (words sets) pairs _ pairs' w₁ _ (omega (arith, options_without (words sets) probe.field probe.option kept, ap options struck, c.take-away-2.ensures.leaves.fewer)),
+        between_struck rules first r (words sets) pairs trial w w₁ b at taken kept long c.copy_row.ensures.words _ c.take_away-2.ensures.put c.take_away-2.ensures.all none pairs' _ wiped c.empty_all.ensures.empty c.take_away-2.ensures.leaves struck,
+        fewer_work (words sets) pairs _ pairs' w₁ _ (omega (arith, options_without (words sets) probe.field probe.option kept, ap options struck, c.take_away-2.ensures.leaves.fewer)),
       );
-      filled = λ yes f. subst Filled (sym (words_set sets c.from-x.result c.without.result)) (filled_without (words sets) c.from-x.result c.without.result.word (λ zero. eqb-false _ 0 (sym c.is-empty.ensures ∙ not-true _ yes) (now ∙ zero)) f);
-      emptied = λ no. (omega (arith, at.field), ap (λ ws. get_or ws probe.field 0) (words_set sets c.from-x.result c.without.result) ∙ ap (λ i. get_or (set (words sets) i c.without.result.word) probe.field 0) c.from-x.ensures ∙ get_or-set_same (words sets) probe.field c.without.result.word 0 (omega (arith, at.field, length_words sets)) ∙ sym now ∙ eqb-true _ 0 (sym c.is-empty.ensures ∙ not-false _ no));
+      filled = λ yes f. subst Filled (sym (words_set sets c.from-x.result c.without.result)) (filled_without (words sets) c.from-x.result c.without.result.word (λ zero. eqb-false _ 0 (sym c.is_empty.ensures ∙ not-true _ yes) (now ∙ zero)) f);
+      emptied = λ no. (omega (arith, at.field), ap (λ ws. get_or ws probe.field 0) (words_set sets c.from-x.result c.without.result) ∙ ap (λ i. get_or (set (words sets) i c.without.result.word) probe.field 0) c.from-x.ensures ∙ get_or-set_same (words sets) probe.field c.without.result.word 0 (omega (arith, at.field, length_words sets)) ∙ sym now ∙ eqb-true _ 0 (sym c.is_empty.ensures ∙ not-false _ no));
     }

@@ -3,9 +3,9 @@ use Rattle.agenda.specs.Ring.{around, apart}
 use Rattle.agenda.specs.Lined.{line}
 use Rattle.agenda.proofs.first.FirstCome.new.Goals as goal
 
-pub invariant-of-result : goal.invariant-of-result
+pub invariant_of-result : goal.invariant_of-result
 unfolding around apart
-invariant-of-result c = (omega arith, (λ k. c.new.ensures k, (refl, tt)))
+invariant_of-result c = (omega arith, (λ k. c.new.ensures k, (refl, tt)))
 
 pub returns : goal.returns
 unfolding line around

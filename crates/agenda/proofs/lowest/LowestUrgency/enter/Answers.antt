@@ -3,9 +3,9 @@ use Rattle.agenda.specs.Ranked.{urgencies_of}
 use Rattle.agenda.proofs.Buckets.{enter_within, enter_filed, enter_shown, entered}
 use Rattle.agenda.proofs.lowest.LowestUrgency.enter.Goals as goal
 
-pub invariant-of-self : goal.invariant-of-self
+pub invariant_of-self : goal.invariant_of-self
 unfolding urgencies_of
-invariant-of-self c =
+invariant_of-self c =
     let l = c.args.self.now in
     let n = c.args.number in
     let v = c.args.urgency in

@@ -3,30 +3,30 @@ use Rattle.agenda.specs.Ranked.{urgencies_of}
 use Rattle.agenda.proofs.Buckets.{listed_set, leave_within, leave_filed, leave_last, leave_others}
 use Rattle.agenda.proofs.lowest.LowestUrgency.leave.Goals as goal
 
-pub invariant-of-self : goal.invariant-of-self
+pub invariant_of-self : goal.invariant_of-self
 unfolding urgencies_of
-invariant-of-self c =
+invariant_of-self c =
     let l = c.args.self.now in
     let n = c.args.number in
     let v = c.args.urgency in
     let on = c.requires.waits in
-    let last = ap is_some (sym c.lowest.ensures) ∙ c.if-is-none.ensures in
-    (leave_within l n v (omega arith) (omega arith) (omega arith) on, (leave_filed l n v (omega arith) (omega arith) (omega arith) on c.remove.new.self c.remove.ensures, (leave_last l n v (omega arith) (omega arith) (omega arith) on c.remove.new.self c.remove.ensures last c.remove-then-is-none.new.self c.remove-then-is-none.ensures, tt)))
+    let last = ap is_some (sym c.lowest.ensures) ∙ c.if-is_none.ensures in
+    (leave_within l n v (omega arith) (omega arith) (omega arith) on, (leave_filed l n v (omega arith) (omega arith) (omega arith) on c.remove.new.self c.remove.ensures, (leave_last l n v (omega arith) (omega arith) (omega arith) on c.remove.new.self c.remove.ensures last c.remove-then-is_none.new.self c.remove-then-is_none.ensures, tt)))
 
-pub invariant-of-self-else-is-none : goal.invariant-of-self-else-is-none
+pub invariant_of-self-else-is_none : goal.invariant_of-self-else-is_none
 unfolding urgencies_of
-invariant-of-self-else-is-none c =
+invariant_of-self-else-is_none c =
     let l = c.args.self.now in
     let n = c.args.number in
     let v = c.args.urgency in
     let on = c.requires.waits in
-    let more = ap is_some (sym c.lowest.ensures) ∙ c.if-is-none.ensures in
+    let more = ap is_some (sym c.lowest.ensures) ∙ c.if-is_none.ensures in
     (leave_within l n v (omega arith) (omega arith) (omega arith) on, (leave_filed l n v (omega arith) (omega arith) (omega arith) on c.remove.new.self c.remove.ensures, (leave_others l n v (omega arith) (omega arith) (omega arith) on c.remove.new.self c.remove.ensures more, tt)))
 
-pub returns-then-is-none : goal.returns-then-is-none
+pub returns-then-is_none : goal.returns-then-is_none
 unfolding urgencies_of
-returns-then-is-none c = listed_set c.args.self.now.urgencies c.args.number None (omega arith)
+returns-then-is_none c = listed_set c.args.self.now.urgencies c.args.number None (omega arith)
 
-pub returns-else-is-none : goal.returns-else-is-none
+pub returns-else-is_none : goal.returns-else-is_none
 unfolding urgencies_of
-returns-else-is-none c = listed_set c.args.self.now.urgencies c.args.number None (omega arith)
+returns-else-is_none c = listed_set c.args.self.now.urgencies c.args.number None (omega arith)

@@ -2,8 +2,8 @@ use Rattle.agenda.specs.Ranked.{urgencies_of}
 use Rattle.agenda.proofs.Buckets.{new_none, new_within, new_filed, new_shown}
 use Rattle.agenda.proofs.lowest.LowestUrgency.new.Goals as goal
 
-pub invariant-of-result : goal.invariant-of-result
-invariant-of-result c =
+pub invariant_of-result : goal.invariant_of-result
+invariant_of-result c =
     let b = c.new.result in
     let busy = c.new-2.result in
     (new_within b busy c.new.ensures c.new-2.ensures 512, (new_filed b busy c.new.ensures c.new-2.ensures 512, (new_shown b busy c.new.ensures c.new-2.ensures 512, tt)))

@@ -7,6 +7,6 @@ pub leave-requires : goal.leave-requires
 unfolding urgencies_of
 leave-requires c = record { within = c.requires; waits = c.in-Some.is }
 
-pub returns-in-default : goal.returns-in-default
+pub returns-in_default : goal.returns-in_default
 unfolding urgencies_of
-returns-in-default c = dropped_nothing (listed c.args.self.now.urgencies) c.args.number c.in-default.not-Some
+returns-in_default c = dropped_nothing (listed c.args.self.now.urgencies) c.args.number c.in_default.not-Some

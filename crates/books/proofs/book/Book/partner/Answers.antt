@@ -35,5 +35,5 @@ returns g c =
     let passes = allowed_on (g.Self.Book.meaning c.args.self.now) c.args.side c.args.rule c.args.option in
     record {
       same = refl;
-      found = waits_none passes c.args.set.word c.loop-other.waiting.word c.loop-other.invariant c.in-default.ensures.least;
+      found = waits_none passes c.args.set.word c.loop-other.waiting.word c.loop-other.invariant c.in_default.ensures.least;
     }

@@ -41,4 +41,4 @@ returns c =
     let second : ℕ → Bool = λ b. has (get_or list (word_at c.args.other b c.args.own) 0) c.args.option in
     found_both (has (get_or list (word_at c.args.own c.args.option c.args.other) 0)) second c.args.set.word c.intersection-waiting.result.word
     (λ b. chosen c.args.set.word c.intersection-waiting.result.word c.word.result.word list (word_at c.args.own c.args.option c.args.other) b c.word.ensures c.intersection-waiting.ensures)
-    None (waits_none second c.intersection-waiting.result.word c.loop-with.waiting.word c.loop-with.invariant c.in-default.ensures.least)
+    None (waits_none second c.intersection-waiting.result.word c.loop-with.waiting.word c.loop-with.invariant c.in_default.ensures.least)

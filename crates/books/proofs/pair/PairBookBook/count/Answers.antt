@@ -9,8 +9,8 @@ use Rattle.books.proofs.pair.PairBookBook.count.Goals as goal
 pub overflow-mul-result : goal.overflow-mul-result
 overflow-mul-result c =
     let few : c.min-fields.result ≤ field_limit = omega (arith, c.from.ensures) in
-    let fewer : c.saturating-sub.result ≤ 15 = omega arith in
-    let most = mul-le c.min-fields.result c.saturating-sub.result field_limit 15 few fewer in
+    let fewer : c.saturating_sub.result ≤ 15 = omega arith in
+    let most = mul-le c.min-fields.result c.saturating_sub.result field_limit 15 few fewer in
     search rules
 
 pub returns : goal.returns
@@ -18,5 +18,5 @@ returns c =
     let n = min field_limit c.args.self.now.fields in
     let is : c.min-fields.result ≡ n = omega (arith, c.from.ensures) in
     let few : n ≤ field_limit = omega arith in
-    ap (λ m. c.min-fields.result * m / 2) c.saturating-sub.ensures ∙ half_square c.min-fields.result ∙ ap triangle is
+    ap (λ m. c.min-fields.result * m / 2) c.saturating_sub.ensures ∙ half_square c.min-fields.result ∙ ap triangle is
     ∙ omega (arith, triangle_few n few, rules_length n (pairs_of n (words c.args.self.now.words.now)))

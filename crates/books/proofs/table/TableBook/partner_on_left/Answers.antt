@@ -28,4 +28,4 @@ returns-then-contains c = (
 pub returns : goal.returns
 returns c =
     let passes : ℕ → Bool = λ left. has (row_of (words c.args.self.now.rows.now) c.args.rule left) c.args.right in
-    waits_none passes c.args.set.word c.loop-left.waiting.word c.loop-left.invariant c.in-default.ensures.least
+    waits_none passes c.args.set.word c.loop-left.waiting.word c.loop-left.invariant c.in_default.ensures.least

@@ -12,7 +12,7 @@ returns-in-Some c =
     let a = c.args.left in
     let b = c.args.right in
     let in_row : c.contains.result ≡ has (row_of rows c.args.rule a) b = c.contains.ensures ∙ ap (λ w. has w b) c.row.ensures in
-    ap (λ f. f && ((ltb a option_limit && ltb b option_limit) && c.contains.result)) c.are-fields.ensures
+    ap (λ f. f && ((ltb a option_limit && ltb b option_limit) && c.contains.result)) c.are_fields.ensures
     ∙ ap (λ h. between_fields (table_rule rows c.args.rule c.in-Some.ends) && ((ltb a option_limit && ltb b option_limit) && h)) in_row
     ∙ once (between_fields (table_rule rows c.args.rule c.in-Some.ends)) (ltb a option_limit) (ltb b option_limit) (has (row_of rows c.args.rule a) b)
     ∙ sym (allowed_by rules c.args.rule (table_rule rows c.args.rule c.in-Some.ends) c.in-Some.ensures a b)

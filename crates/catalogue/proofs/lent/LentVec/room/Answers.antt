@@ -3,4 +3,4 @@ use Rattle.std.proofs.lemmas.List.{length-drop}
 use Rattle.catalogue.proofs.lent.LentVec.room.Goals as goal
 
 pub returns : goal.returns
-returns g c = c.saturating-sub.ensures ∙ sym (length-drop c.args.self.now.filled c.args.self.now.places.now)
+returns g c = c.saturating_sub.ensures ∙ sym (length-drop c.args.self.now.filled c.args.self.now.places.now)

@@ -12,11 +12,11 @@ returns c =
     let a = c.args.option in
     let tables : c.len-tables.result ≡ length k.ends.entered = c.len-tables.ensures in
     let at : ℕ = (length k.ends.entered - 1) * 32 + a in
-    let place = c.saturating-add.result in
+    let place = c.saturating_add.result in
     let far : (place ≡ at) ⊎ ((length k.rows.entered ≤ place) × (length k.rows.entered ≤ at)) =
     elim (cases_lt at (2 ^ 64 - 1)) [
-      | inl low ↦ inl (omega (arith, c.saturating-add.ensures, c.saturating-mul-first.ensures))
-      | inr high ↦ inr (omega (arith, c.set.ensures.bound, c.saturating-add.ensures, c.saturating-mul-first.ensures), omega (arith, c.set.ensures.bound))
+      | inl low ↦ inl (omega (arith, c.saturating_add.ensures, c.saturating_mul-first.ensures))
+      | inr high ↦ inr (omega (arith, c.set.ensures.bound, c.saturating_add.ensures, c.saturating_mul-first.ensures), omega (arith, c.set.ensures.bound))
     ] in
     let none : row_refusal k a ≡ None =
     cond-false _ _ _ (ne_eqb _ _ (λ e. c.if-tables-eq0.false (tables ∙ e))) ∙ cond-true _ _ _ (lt-ltb a 32 c.if-option-ge-OPTIONS.false) in

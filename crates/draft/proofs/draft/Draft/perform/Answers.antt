@@ -47,10 +47,10 @@ returns-in-Err g c =
 pub returns-in-TakeBack : goal.returns-in-TakeBack
 returns-in-TakeBack g c =
     let d = c.args.self.now in
-    let d' = c.take-back.new.self in
+    let d' = c.take_back.new.self in
     let rules = g.B.Book.meaning d.book in
-    let told : Answers rules d c.args.call c.answered-in-TakeBack.result d' = as_asked rules d d' _ _ _ _ c.in-TakeBack.is c.answered-in-TakeBack.ensures c.take-back.ensures.answer in
-    record { meaning = ap g.B.Book.meaning c.take-back.ensures.untouched.book; answer = told; law = answers_keep_the_law rules d c.args.call c.answered-in-TakeBack.result d' told }
+    let told : Answers rules d c.args.call c.answered-in-TakeBack.result d' = as_asked rules d d' _ _ _ _ c.in-TakeBack.is c.answered-in-TakeBack.ensures c.take_back.ensures.answer in
+    record { meaning = ap g.B.Book.meaning c.take_back.ensures.untouched.book; answer = told; law = answers_keep_the_law rules d c.args.call c.answered-in-TakeBack.result d' told }
 
 pub returns-in-Ok-show : goal.returns-in-Ok-show
 returns-in-Ok-show g c =

@@ -28,11 +28,11 @@ loop-call-preserved g c =
     let more : Performed rules d (take i calls ++ asked ∷ []) (answers ++ told ∷ []) d' = performed_more rules d now d' (take i calls) answers asked told inv.1.1.1 step in (
       c.perform-answer.ensures.meaning ∙ inv.0,
       (
-        omega (arith, c.push-reserved.ensures.len, inv.1.0),
+        omega (arith, c.push_reserved.ensures.len, inv.1.0),
         (
-          omega (arith, c.push-reserved.ensures.capacity, inv.1.1.0),
-          subst (λ l. Performed rules d l (vec_items c.push-reserved.new.self) d') (sym (take_more calls i (call.Choose 0 0) (omega arith)))
-              (subst (λ l. Performed rules d (take i calls ++ asked ∷ []) l d') (sym c.push-reserved.ensures.items) more),
+          omega (arith, c.push_reserved.ensures.capacity, inv.1.1.0),
+          subst (λ l. Performed rules d l (vec_items c.push_reserved.new.self) d') (sym (take_more calls i (call.Choose 0 0) (omega arith)))
+              (subst (λ l. Performed rules d (take i calls ++ asked ∷ []) l d') (sym c.push_reserved.ensures.items) more),
         ),
       ),
     )

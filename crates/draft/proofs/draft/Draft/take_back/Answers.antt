@@ -8,8 +8,8 @@ use Rattle.draft.proofs.Drafts.{last_read, last_within, standing_back, shrunk, a
 use Rattle.draft.proofs.Steps.{same_state, takes_back}
 use Rattle.draft.proofs.draft.Draft.take_back.Goals as goal
 
-pub invariant-of-self-2 : goal.invariant-of-self-2
-invariant-of-self-2 g c =
+pub invariant_of-self-2 : goal.invariant_of-self-2
+invariant_of-self-2 g c =
     let d = c.args.self.now in
     let h = c.if-not-self.false in
     let some : 0 < vec_len d.taken = omega arith in
@@ -19,9 +19,9 @@ invariant-of-self-2 g c =
     let mark : c.index-last.result.now.mark ≡ latest_mark (view d) = last_read d h some _ _ c.len-count.ensures c.index-last.ensures in
     let count : c.len-count.result - 1 ≡ length (vec_items d.taken) - 1 = omega (arith, d.taken.ok.0) in
     shrunk d h some _ (vec_items strikes) (vec_len strikes) (vec_capacity strikes) (vec_items taken) (vec_len taken) (vec_capacity taken)
-    (ap words (with_items_is d.standing c.put-back.new.sets (c.put-back.auto.sets ∙ c.as-mut-slice.ensures.len)) ∙ c.put-back.ensures.after
-    ∙ ap (λ v. put_all (words v) (drop c.index-last.result.now.mark c.as-slice.result.now)) c.as-mut-slice.ensures.value
-    ∙ ap (λ ss. put_all sets (drop c.index-last.result.now.mark ss)) c.as-slice.ensures.value
+    (ap words (with_items_is d.standing c.put_back.new.sets (c.put_back.auto.sets ∙ c.as_mut_slice.ensures.len)) ∙ c.put_back.ensures.after
+    ∙ ap (λ v. put_all (words v) (drop c.index-last.result.now.mark c.as_slice.result.now)) c.as_mut_slice.ensures.value
+    ∙ ap (λ ss. put_all sets (drop c.index-last.result.now.mark ss)) c.as_slice.ensures.value
     ∙ ap (λ m. put_all sets (drop m (vec_items d.strikes))) mark ∙ standing_back d h some)
     (c.truncate.ensures.items ∙ ap (λ m. take m (vec_items d.strikes)) mark)
     (omega (arith, last_within d h some, c.truncate.ensures.len))
@@ -45,8 +45,8 @@ returns g c =
           (same_state _ _ refl
           (c.truncate-2.ensures.items ∙ ap (λ m. take m (vec_items d.taken)) count)
           (c.truncate.ensures.items ∙ ap (λ m. take m (vec_items d.strikes)) mark)
-          (ap words (with_items_is d.standing c.put-back.new.sets (c.put-back.auto.sets ∙ c.as-mut-slice.ensures.len)) ∙ c.put-back.ensures.after
-          ∙ ap (λ v. put_all (words v) (drop c.index-last.result.now.mark c.as-slice.result.now)) c.as-mut-slice.ensures.value
-          ∙ ap (λ ss. put_all sets (drop c.index-last.result.now.mark ss)) c.as-slice.ensures.value
+          (ap words (with_items_is d.standing c.put_back.new.sets (c.put_back.auto.sets ∙ c.as_mut_slice.ensures.len)) ∙ c.put_back.ensures.after
+          ∙ ap (λ v. put_all (words v) (drop c.index-last.result.now.mark c.as_slice.result.now)) c.as_mut_slice.ensures.value
+          ∙ ap (λ ss. put_all sets (drop c.index-last.result.now.mark ss)) c.as_slice.ensures.value
           ∙ ap (λ m. put_all sets (drop m (vec_items d.strikes))) mark ∙ standing_back d h some)));
     }

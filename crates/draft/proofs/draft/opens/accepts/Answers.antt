@@ -25,16 +25,16 @@ returns g c =
     let sets = c.args.sets.now in
     let n = length_words sets in (
       λ yes'.
-          let between : Between rules (length (words sets)) = subst (Between rules) (sym n) (c.all-between.ensures.0 yes') in
+          let between : Between rules (length (words sets)) = subst (Between rules) (sym n) (c.all_between.ensures.0 yes') in
           record {
             some = omega (arith, c.if-fields-eq0.false);
             few = omega (arith, c.if-fields.false);
-            fit = c.if-not-all-filled.ensures.fit refl;
-            filled = c.if-not-all-filled.ensures.answer.0 refl;
+            fit = c.if-not-all_filled.ensures.fit refl;
+            filled = c.if-not-all_filled.ensures.answer.0 refl;
             rules_few = omega (arith, c.if-count-gt-RULES.false, c.count.ensures);
             left_is_field = λ r lt. (between r lt).0;
             right_is_field = λ r lt. (between r lt).1.0;
             ends_differ = λ r lt. (between r lt).1.1;
           },
-      λ ok. c.all-between.ensures.1 (subst (Between rules) n (λ r lt. (ok.left_is_field r lt, (ok.right_is_field r lt, ok.ends_differ r lt)))),
+      λ ok. c.all_between.ensures.1 (subst (Between rules) n (λ r lt. (ok.left_is_field r lt, (ok.right_is_field r lt, ok.ends_differ r lt)))),
     )

@@ -9,4 +9,4 @@ returns-in-Some c =
     let s' = state c.step.new.self in
     let line = c.args.line.now in
     let replied : Replied s line c.told.result s' = subst (λ a. Replied s line a s') (sym c.told.ensures) (replied_by s s' line c.in-Some.result c.in-Some.ensures) in
-    exchanged s s' line c.args.out.now c.write.new.line c.told.result c.write.result c.if-out-lt-LINE-BYTES.false replied c.write.ensures.answer c.write.ensures.after
+    exchanged s s' line c.args.out.now c.write.new.line c.told.result c.write.result c.if-out-lt-LINE_BYTES.false replied c.write.ensures.answer c.write.ensures.after

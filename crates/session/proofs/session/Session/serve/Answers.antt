@@ -4,17 +4,17 @@ use Rattle.catalogue.specs.View.{content}
 use Rattle.session.proofs.Passing.{answered_so}
 use Rattle.session.proofs.session.Session.serve.Goals as goal
 
-pub returns-in-err-enter : goal.returns-in-err-enter
-returns-in-err-enter c =
-    let p = err_from_is_err_and c.from-residual-in-err-enter.result c.from-residual-in-err-enter.ensures.1 in
-    let frame = c.in-ok-frame.frame in
-    let refused = c.in-err-enter.ensures in
+pub returns-in_err-enter : goal.returns-in_err-enter
+returns-in_err-enter c =
+    let p = err_from_is_err_and c.from-residual-in_err-enter.result c.from-residual-in_err-enter.ensures.1 in
+    let frame = c.in_ok-frame.frame in
+    let refused = c.in_err-enter.ensures in
     rw (p.1, p.2)
     (record {
       served = record {
         asked = Ok frame;
-        received = c.in-ok-frame.ensures;
-        answers = answered_so (content c.args.self.now.catalogue) frame c.in-err-enter.field-0.0 refused.answers;
+        received = c.in_ok-frame.ensures;
+        answers = answered_so (content c.args.self.now.catalogue) frame c.in_err-enter.field-0.0 refused.answers;
         holds = refused.after;
       };
       lines = refl;

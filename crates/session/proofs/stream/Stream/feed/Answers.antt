@@ -9,7 +9,7 @@ returns-then-byte-ne10 c line e =
     inr (inl (
       c.if-byte-ne10.true,
       record {
-        room = c.if-out-lt-LINE-BYTES.false;
+        room = c.if-out-lt-LINE_BYTES.false;
         answer = refl;
         buffer = refl;
         session = refl;
@@ -21,8 +21,8 @@ pub returns : goal.returns
 returns c line e =
     let b = c.args.byte in
     let pushed : kept c.push.new.self ≡ take 34 (line ++ b ∷ []) = c.push.ensures ∙ ap (λ l. take 34 (l ++ b ∷ [])) (sym e) ∙ reach_more 34 line b in
-    let start : take 34 (line ++ b ∷ []) ≡ take 34 c.as-slice.result.now = sym (ap (take 34) (c.as-slice.ensures ∙ pushed) ∙ reach_again 34 (line ++ b ∷ [])) in
+    let start : take 34 (line ++ b ∷ []) ≡ take 34 c.as_slice.result.now = sym (ap (take 34) (c.as_slice.ensures ∙ pushed) ∙ reach_again 34 (line ++ b ∷ [])) in
     inr (inr (
       c.if-byte-ne10.false,
-      record { room = c.if-out-lt-LINE-BYTES.false; answer = c.exchange-answered.ensures (line ++ b ∷ []) start; pending = c.clear.ensures },
+      record { room = c.if-out-lt-LINE_BYTES.false; answer = c.exchange-answered.ensures (line ++ b ∷ []) start; pending = c.clear.ensures },
     ))

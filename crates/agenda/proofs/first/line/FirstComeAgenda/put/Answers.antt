@@ -23,8 +23,8 @@ overflow-add-self c = let few = room c.args.self.now c.args.number (omega arith)
 pub overflow-add-self-2 : goal.overflow-add-self-2
 overflow-add-self-2 c = let few = room c.args.self.now c.args.number (omega arith) (sym c.if-contains.ensures) (omega arith) in omega arith
 
-pub invariant-of-self : goal.invariant-of-self
-invariant-of-self c =
+pub invariant_of-self : goal.invariant_of-self
+invariant_of-self c =
     let f = c.args.self.now in
     let n = c.args.number in
     let off = sym c.if-contains.ensures in

@@ -19,8 +19,8 @@ overflow-cast-number c = let h = take_below c.args.self.now c.if-self-eq0.false 
 pub remove-requires : goal.remove-requires
 remove-requires c = take_below c.args.self.now c.if-self-eq0.false (omega arith)
 
-pub invariant-of-self : goal.invariant-of-self
-invariant-of-self c =
+pub invariant_of-self : goal.invariant_of-self
+invariant_of-self c =
     let f = c.args.self.now in
     let some = c.if-self-eq0.false in
     (omega arith, (take_marked f some c.remove.new.self c.remove.ensures, (take_once f some, tt)))

@@ -7,8 +7,8 @@ pub returns : goal.returns
 returns c =
     let u = urgencies_of c.args.self.now in
     let u' = urgencies_of c.withdraw.new.self in
-    let n = c.in-ok-number.number in
-    let foremost = c.in-ok-number.ensures in
+    let n = c.in_ok-number.number in
+    let foremost = c.in_ok-number.ensures in
     let out = c.withdraw.ensures in
     record {
       taken = (foremost.waits.1, waits_dropped u u' n None out refl);
