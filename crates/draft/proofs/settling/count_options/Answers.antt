@@ -10,8 +10,8 @@ options_push : (ws : List ℕ) (w : ℕ) → options (ws ++ w ∷ []) ≡ option
 options_push [] w = omega arith
 options_push (v ∷ ws) w = omega (arith, options_push ws w)
 
-pub overflow-add-count : goal.overflow-add-count
-overflow-add-count c = omega (arith, c.loop-set.invariant.1, c.requires)
+pub overflow_add-count : goal.overflow_add-count
+overflow_add-count c = omega (arith, c.loop-set.invariant.1, c.requires)
 
 pub loop-set-preserved : goal.loop-set-preserved
 loop-set-preserved c =

@@ -6,7 +6,7 @@ use Rattle.frames.proofs.lines.read_line.Goals as goal
 
 pub returns-in_err-size : goal.returns-in_err-size
 returns-in_err-size c =
-    let p = err_from_is_err_and c.from-residual.result c.from-residual.ensures.1 in
+    let p = err_from_is_err_and c.from_residual.result c.from_residual.ensures.1 in
     let room = length c.args.frame.now in
     let answer : Err c.in_err-size.field-0.0 ≡ reading room c.args.line.now = c.in_err-size.ensures ∙ same_reading room c.args.line.now (omega arith) in
     rw (p.1, p.2) (record { answer = answer; after = refl; back = λ bytes f is wide. no_frame room c.args.line.now c.in_err-size.field-0.0 answer bytes f is wide })
@@ -19,7 +19,7 @@ returns c =
     let room = length c.args.frame.now in
     let made = c.write_bytes.ensures in
     let answer : Ok n ≡ reading room line = c.in_ok-size.ensures ∙ same_reading room line (omega arith) in
-    let fit : (k : ℕ) → get_or frame k 0 < 256 = λ k. omega (arith, c.type-inv.frame k) in
+    let fit : (k : ℕ) → get_or frame k 0 < 256 = λ k. omega (arith, c.ok.frame k) in
     let size = count room n line frame answer made.bytes in
     record {
       answer = answer;

@@ -12,7 +12,7 @@ use Rattle.session.proofs.session.enter.Goals as goal
 
 pub returns-in_err-start_table : goal.returns-in_err-start_table
 returns-in_err-start_table c =
-    let p = err_from_is_err_and c.from-residual-in_err-start_table.result c.from-residual-in_err-start_table.ensures.1 in
+    let p = err_from_is_err_and c.from_residual-in_err-start_table.result c.from_residual-in_err-start_table.ensures.1 in
     let k = content c.args.catalogue.now in
     let ends : Ends = record { left = c.in-StartTable.left; right = c.in-StartTable.right } in
     let refused = c.in_err-start_table.ensures in
@@ -24,7 +24,7 @@ returns-in_err-start_table c =
 
 pub returns-in_err-enter_formula : goal.returns-in_err-enter_formula
 returns-in_err-enter_formula c =
-    let p = err_from_is_err_and c.from-residual-in_err-enter_formula.result c.from-residual-in_err-enter_formula.ensures.1 in
+    let p = err_from_is_err_and c.from_residual-in_err-enter_formula.result c.from_residual-in_err-enter_formula.ensures.1 in
     let k = content c.args.catalogue.now in
     let a = c.in-EnterFormula in
     let fits : SFits w8 a.difference = search rules in

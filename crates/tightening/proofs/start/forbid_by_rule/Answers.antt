@@ -7,8 +7,8 @@ use Rattle.books.proofs.Walks.{waits_fall}
 use Rattle.tightening.proofs.Starting.{PartWay, part_way_two, part_way_start, part_way_end, part_way_step, keep_tells, ends_told}
 use Rattle.tightening.proofs.start.forbid_by_rule.Goals as goal
 
-pub overflow-cast-fields : goal.overflow-cast-fields
-overflow-cast-fields g c = omega (arith, c.requires.accepted.few, length_words c.args.sets.now)
+pub overflow_cast-fields : goal.overflow_cast-fields
+overflow_cast-fields g c = omega (arith, c.requires.accepted.few, length_words c.args.sets.now)
 
 pub bounds-sets-ends : goal.bounds-sets-ends
 bounds-sets-ends g c =

@@ -23,8 +23,8 @@ tighten_copy-requires g c =
       strikes = c.in_ok-strikes.ensures.capacity;
     }
 
-pub overflow-mul-sets : goal.overflow-mul-sets
-overflow-mul-sets g c =
+pub overflow_mul-sets : goal.overflow_mul-sets
+overflow_mul-sets g c =
     let ok = c.in_ok-check_tightening.ensures.accepted in
     omega (arith, ok.0.few, length_words c.args.sets.now)
 

@@ -5,7 +5,7 @@ use Rattle.agenda.proofs.first.FirstCome.new.Goals as goal
 
 pub invariant_of-result : goal.invariant_of-result
 unfolding around apart
-invariant_of-result c = (omega arith, (λ k. c.new.ensures k, (refl, tt)))
+invariant_of-result c = record { within = omega arith; marked = (λ k. c.new.ensures k); once = refl }
 
 pub returns : goal.returns
 unfolding line around

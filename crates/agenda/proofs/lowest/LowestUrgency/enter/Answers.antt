@@ -10,7 +10,7 @@ invariant_of-self c =
     let n = c.args.number in
     let v = c.args.urgency in
     let off = c.requires.new in
-    (enter_within l n v (omega arith) (omega arith) (omega arith) (omega arith) off, (enter_filed l n v (omega arith) (omega arith) (omega arith) (omega arith) off c.insert.new.self c.insert.ensures, (enter_shown l n v (omega arith) (omega arith) (omega arith) (omega arith) off c.insert-2.new.self c.insert-2.ensures, tt)))
+    record { within = enter_within l n v (omega arith) (omega arith) (omega arith) (omega arith) off; filed = enter_filed l n v (omega arith) (omega arith) (omega arith) (omega arith) off c.insert.new.self c.insert.ensures; shown = enter_shown l n v (omega arith) (omega arith) (omega arith) (omega arith) off c.insert-2.new.self c.insert-2.ensures }
 
 pub returns : goal.returns
 unfolding urgencies_of

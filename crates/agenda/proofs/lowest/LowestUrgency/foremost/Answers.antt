@@ -10,7 +10,7 @@ unfolding urgencies_of
 returns-in_err-urgency c =
     let l = c.args.self.now in
     let idle = sym c.in_err-urgency.ensures in
-    let none = c.from-residual.ensures in
+    let none = c.from_residual.ensures in
     record {
       answer = none ∙ sym (ap first_of (idle_order l idle));
       waits = subst (Foremost (listed l.urgencies)) (sym none) (idle_nothing l idle);

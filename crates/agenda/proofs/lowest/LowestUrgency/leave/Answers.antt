@@ -11,7 +11,7 @@ invariant_of-self c =
     let v = c.args.urgency in
     let on = c.requires.waits in
     let last = ap is_some (sym c.lowest.ensures) ∙ c.if-is_none.ensures in
-    (leave_within l n v (omega arith) (omega arith) (omega arith) on, (leave_filed l n v (omega arith) (omega arith) (omega arith) on c.remove.new.self c.remove.ensures, (leave_last l n v (omega arith) (omega arith) (omega arith) on c.remove.new.self c.remove.ensures last c.remove-then-is_none.new.self c.remove-then-is_none.ensures, tt)))
+    record { within = leave_within l n v (omega arith) (omega arith) (omega arith) on; filed = leave_filed l n v (omega arith) (omega arith) (omega arith) on c.remove.new.self c.remove.ensures; shown = leave_last l n v (omega arith) (omega arith) (omega arith) on c.remove.new.self c.remove.ensures last c.remove-then-is_none.new.self c.remove-then-is_none.ensures }
 
 pub invariant_of-self-else-is_none : goal.invariant_of-self-else-is_none
 unfolding urgencies_of
@@ -21,7 +21,7 @@ invariant_of-self-else-is_none c =
     let v = c.args.urgency in
     let on = c.requires.waits in
     let more = ap is_some (sym c.lowest.ensures) ∙ c.if-is_none.ensures in
-    (leave_within l n v (omega arith) (omega arith) (omega arith) on, (leave_filed l n v (omega arith) (omega arith) (omega arith) on c.remove.new.self c.remove.ensures, (leave_others l n v (omega arith) (omega arith) (omega arith) on c.remove.new.self c.remove.ensures more, tt)))
+    record { within = leave_within l n v (omega arith) (omega arith) (omega arith) on; filed = leave_filed l n v (omega arith) (omega arith) (omega arith) on c.remove.new.self c.remove.ensures; shown = leave_others l n v (omega arith) (omega arith) (omega arith) on c.remove.new.self c.remove.ensures more }
 
 pub returns-then-is_none : goal.returns-then-is_none
 unfolding urgencies_of

@@ -6,7 +6,7 @@ pub invariant_of-result : goal.invariant_of-result
 invariant_of-result c =
     let b = c.new.result in
     let busy = c.new-2.result in
-    (new_within b busy c.new.ensures c.new-2.ensures 512, (new_filed b busy c.new.ensures c.new-2.ensures 512, (new_shown b busy c.new.ensures c.new-2.ensures 512, tt)))
+    record { within = new_within b busy c.new.ensures c.new-2.ensures 512; filed = new_filed b busy c.new.ensures c.new-2.ensures 512; shown = new_shown b busy c.new.ensures c.new-2.ensures 512 }
 
 pub returns : goal.returns
 unfolding urgencies_of

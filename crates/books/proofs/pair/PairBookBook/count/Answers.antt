@@ -6,8 +6,8 @@ use Rattle.books.proofs.Pairing.{rules_length, triangle_few}
 use Rattle.books.proofs.PairBooks.{half_square}
 use Rattle.books.proofs.pair.PairBookBook.count.Goals as goal
 
-pub overflow-mul-result : goal.overflow-mul-result
-overflow-mul-result c =
+pub overflow_mul-result : goal.overflow_mul-result
+overflow_mul-result c =
     let few : c.min-fields.result ≤ field_limit = omega (arith, c.from.ensures) in
     let fewer : c.saturating_sub.result ≤ 15 = omega arith in
     let most = mul-le c.min-fields.result c.saturating_sub.result field_limit 15 few fewer in

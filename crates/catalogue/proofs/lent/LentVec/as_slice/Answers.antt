@@ -3,8 +3,8 @@ use Rattle.std.proofs.lemmas.List.{length-take}
 use Rattle.catalogue.proofs.Fronts.{take_min}
 use Rattle.catalogue.proofs.lent.LentVec.as_slice.Goals as goal
 
-pub slice-bounds-result-end : goal.slice-bounds-result-end
-slice-bounds-result-end g c =
+pub slice_bounds-result-end : goal.slice_bounds-result-end
+slice_bounds-result-end g c =
     let v = c.args.self.now in
     let h : c.len-n.result ≤ length v.places.now = omega (arith, c.len-n.ensures, length-take v.filled v.places.now) in
     search rules

@@ -74,8 +74,8 @@ returns-in-Err g c =
       answer = answers d h rules Settle (Refused (WipedOut w.field w.rule)) _ refl (acts rules (view d) Settle (Refused (WipedOut w.field w.rule)) _ refl does);
     }
 
-pub overflow-cast-result : goal.overflow-cast-result
-overflow-cast-result g c =
+pub overflow_cast-result : goal.overflow_cast-result
+overflow_cast-result g c =
     let d = c.args.self.now in
     let h = c.if-not-self.false in
     let rules = g.B.Book.meaning d.book in

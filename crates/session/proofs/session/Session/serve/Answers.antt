@@ -6,7 +6,7 @@ use Rattle.session.proofs.session.Session.serve.Goals as goal
 
 pub returns-in_err-enter : goal.returns-in_err-enter
 returns-in_err-enter c =
-    let p = err_from_is_err_and c.from-residual-in_err-enter.result c.from-residual-in_err-enter.ensures.1 in
+    let p = err_from_is_err_and c.from_residual-in_err-enter.result c.from_residual-in_err-enter.ensures.1 in
     let frame = c.in_ok-frame.frame in
     let refused = c.in_err-enter.ensures in
     rw (p.1, p.2)

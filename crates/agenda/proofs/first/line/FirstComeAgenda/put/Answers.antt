@@ -17,18 +17,18 @@ returns-then-contains c =
       order = same;
     }
 
-pub overflow-add-self : goal.overflow-add-self
-overflow-add-self c = let few = room c.args.self.now c.args.number (omega arith) (sym c.if-contains.ensures) (omega arith) in omega (arith, c.args.self.now.within)
+pub overflow_add-self : goal.overflow_add-self
+overflow_add-self c = let few = room c.args.self.now c.args.number (omega arith) (sym c.if-contains.ensures) (omega arith) in omega (arith, c.args.self.now.within)
 
-pub overflow-add-self-2 : goal.overflow-add-self-2
-overflow-add-self-2 c = let few = room c.args.self.now c.args.number (omega arith) (sym c.if-contains.ensures) (omega arith) in omega arith
+pub overflow_add-self-2 : goal.overflow_add-self-2
+overflow_add-self-2 c = let few = room c.args.self.now c.args.number (omega arith) (sym c.if-contains.ensures) (omega arith) in omega arith
 
 pub invariant_of-self : goal.invariant_of-self
 invariant_of-self c =
     let f = c.args.self.now in
     let n = c.args.number in
     let off = sym c.if-contains.ensures in
-    (f.within, (put_marked f n (omega arith) off (omega arith) (omega arith) c.insert.new.self c.insert.ensures, (put_once f n (omega arith) off (omega arith) (omega arith), tt)))
+    record { within = f.within; marked = put_marked f n (omega arith) off (omega arith) (omega arith) c.insert.new.self c.insert.ensures; once = put_once f n (omega arith) off (omega arith) (omega arith) }
 
 pub returns : goal.returns
 unfolding line

@@ -13,8 +13,8 @@ returns-then-self-eq0 c =
       order = none ∙ sym (ap (drop 1) none);
     }
 
-pub overflow-cast-number : goal.overflow-cast-number
-overflow-cast-number c = let h = take_below c.args.self.now c.if-self-eq0.false (omega arith) in omega arith
+pub overflow_cast-number : goal.overflow_cast-number
+overflow_cast-number c = let h = take_below c.args.self.now c.if-self-eq0.false (omega arith) in omega arith
 
 pub remove-requires : goal.remove-requires
 remove-requires c = take_below c.args.self.now c.if-self-eq0.false (omega arith)
@@ -23,7 +23,7 @@ pub invariant_of-self : goal.invariant_of-self
 invariant_of-self c =
     let f = c.args.self.now in
     let some = c.if-self-eq0.false in
-    (omega arith, (take_marked f some c.remove.new.self c.remove.ensures, (take_once f some, tt)))
+    record { within = omega arith; marked = take_marked f some c.remove.new.self c.remove.ensures; once = take_once f some }
 
 pub returns : goal.returns
 unfolding line
