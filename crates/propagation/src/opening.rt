@@ -33,8 +33,8 @@ fn are_unfit(ends: Ends, fields: u8) -> bool
 
 // Whether some rule does not lie between two of the fields.
 fn any_unfit<B: Book>(book: &B, fields: u8) -> bool
-    requires { length (meaning book.now) ≤ rule_limit }
-    ensures { result ≡ any (unfit fields) (meaning book.now) }
+    requires { length (B.Book.meaning book.now) ≤ rule_limit }
+    ensures { result ≡ any (unfit fields) (B.Book.meaning book.now) }
 {
     for rule in 0..book.count() {
         if are_unfit(book.ends(rule), fields) {
@@ -46,8 +46,8 @@ fn any_unfit<B: Book>(book: &B, fields: u8) -> bool
 
 // Checks whether the sets can be opened over the book, and tells the first reason why not.
 pub fn check_opening<B: Book>(book: &B, sets: &[OptionSet]) -> Result<(), EngineFault>
-    ensures answer { result ≡ answer (opening_refusal (meaning book.now) (words sets.now)) }
-    ensures accepted { MatchResult result (λ _. Accepted (meaning book.now) (words sets.now)) (λ _. Accepted (meaning book.now) (words sets.now) → ⊥) }
+    ensures answer { result ≡ answer (opening_refusal (B.Book.meaning book.now) (words sets.now)) }
+    ensures accepted { MatchResult result (λ _. Accepted (B.Book.meaning book.now) (words sets.now)) (λ _. Accepted (B.Book.meaning book.now) (words sets.now) → ⊥) }
 {
     let fields = sets.len();
     if fields == 0 || fields > FIELDS as usize {

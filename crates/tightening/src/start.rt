@@ -46,7 +46,7 @@ fn start_pairs(sets: &[OptionSet], pairs: &mut [OptionSet])
 
 // The options of the set that a rule allows with an option on its left.
 fn allowed_with<B: Book>(book: &B, rule: u8, option: u8, set: OptionSet) -> OptionSet
-    ensures { (b : ℕ) → has result.word b ≡ (has set.word b && allowed (meaning book.now) rule option b) }
+    ensures { (b : ℕ) → has result.word b ≡ (has set.word b && allowed (B.Book.meaning book.now) rule option b) }
 {
     let mut passing = set;
     let mut waiting = set;
@@ -60,11 +60,11 @@ fn allowed_with<B: Book>(book: &B, rule: u8, option: u8, set: OptionSet) -> Opti
 
 // Forbids the pairs that a rule does not allow, once those stand that the rules before it allow.
 fn forbid_by_rule<B: Book>(book: &B, rule: u8, sets: &[OptionSet], pairs: &mut [OptionSet])
-    requires accepted { Accepted (meaning book.now) (words sets.now) }
-    requires rule { rule < length (meaning book.now) }
+    requires accepted { Accepted (B.Book.meaning book.now) (words sets.now) }
+    requires rule { rule < length (B.Book.meaning book.now) }
     requires room { Room (length sets.now) (words pairs.old) }
-    requires pairs { Standing (take rule (meaning book.now)) (words sets.now) (words pairs.old) }
-    ensures pairs { Standing (take (rule + 1) (meaning book.now)) (words sets.now) (words pairs.new) }
+    requires pairs { Standing (take rule (B.Book.meaning book.now)) (words sets.now) (words pairs.old) }
+    ensures pairs { Standing (take (rule + 1) (B.Book.meaning book.now)) (words sets.now) (words pairs.new) }
     ensures rest { StayBeyond (length sets.now) (words pairs.old) (words pairs.new) }
 {
     let ends = book.ends(rule);
@@ -83,9 +83,9 @@ fn forbid_by_rule<B: Book>(book: &B, rule: u8, sets: &[OptionSet], pairs: &mut [
 
 // Writes the pairs that stand: of two options of different fields, if no rule forbids them.
 pub(crate) fn stand_at_start<B: Book>(book: &B, sets: &[OptionSet], pairs: &mut [OptionSet])
-    requires accepted { Accepted (meaning book.now) (words sets.now) }
+    requires accepted { Accepted (B.Book.meaning book.now) (words sets.now) }
     requires room { Room (length sets.now) (words pairs.old) }
-    ensures pairs { Standing (meaning book.now) (words sets.now) (words pairs.new) }
+    ensures pairs { Standing (B.Book.meaning book.now) (words sets.now) (words pairs.new) }
     ensures rest { StayBeyond (length sets.now) (words pairs.old) (words pairs.new) }
 {
     start_pairs(sets, pairs);

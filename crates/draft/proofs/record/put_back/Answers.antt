@@ -20,7 +20,7 @@ loop-i-preserved c =
     let s : Strike = get_or ss j none in
     let next : j + 1 ≡ c.loop-i.i = omega arith in
     let rest : drop j ss ≡ s ∷ drop c.loop-i.i ss = drop_more ss j none (omega arith) ∙ ap (λ n. s ∷ drop n ss) next in (
-      c.put_back_one_lem.ensures ∙ ap (λ v. put_one v s) c.loop-i.invariant.0 ∙ sym (ap (λ r. put_all (words c.args.sets.now) r) rest),
+      c.put_back_one.ensures ∙ ap (λ v. put_one v s) c.loop-i.invariant.0 ∙ sym (ap (λ r. put_all (words c.args.sets.now) r) rest),
       omega arith,
       omega arith,
     )

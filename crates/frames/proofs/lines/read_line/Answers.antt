@@ -19,7 +19,7 @@ returns c =
     let room = length c.args.frame.now in
     let made = c.write_bytes.ensures in
     let answer : Ok n ≡ reading room line = c.in_ok-size.ensures ∙ same_reading room line (omega arith) in
-    let fit : (k : ℕ) → get_or frame k 0 < 256 = λ k. omega (arith, c.ok.frame k) in
+    let fit : (k : ℕ) → get_or frame k 0 < 256 = λ k. omega (arith, c.type_inv.frame k) in
     let size = count room n line frame answer made.bytes in
     record {
       answer = answer;

@@ -55,12 +55,6 @@ returns-then-not-revise g c =
       };
     }
 
-pub slice-copy-out·is-empty : goal.slice-copy-out·is-empty
-slice-copy-out·is-empty g c =
-    let arc = c.args.arc in
-    let h = c.requires.ready.sound.own_field arc.rule arc.side c.requires.ready.rule in
-    omega (arith, field_is (g.B.Book.meaning c.args.book.now) c.args.ends.now c.args.arc c.requires.listed c.requires.ready.rule c.arc_ends-field.result.0 c.arc_ends-field.ensures.field, h, length_words c.args.sets.now)
-
 pub returns-then-is_empty : goal.returns-then-is_empty
 returns-then-is_empty g c =
     let slice = c.revise.new.sets in

@@ -10,10 +10,6 @@ use Rattle.propagation.specs.Progress.{Progress}
 use Rattle.propagation.proofs.Steps.{Walk, walk_start, walk_next, progress_none, progress_then, progress_count, progress_shrinks, progress_still, progress_fewer, at_after, support_stays}
 use Rattle.propagation.proofs.revise.revise.Goals as goal
 
-pub slice-copy-out·waiting : goal.slice-copy-out·waiting
-slice-copy-out·waiting g c =
-    omega (arith, c.requires.at.field, c.requires.at.sound.own_field c.args.arc.rule c.args.arc.side c.requires.at.rule, length_words c.args.sets.now)
-
 pub loop-option-init : goal.loop-option-init
 loop-option-init g c =
     let rules = g.B.Book.meaning c.args.book.now in

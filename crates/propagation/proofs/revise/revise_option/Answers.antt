@@ -7,10 +7,6 @@ use Rattle.propagation.proofs.Strikes.{options_without, struck_gone, stays, with
 use Rattle.propagation.proofs.Steps.{progress_none, progress_strike, partner_found, partner_none}
 use Rattle.propagation.proofs.revise.revise_option.Goals as goal
 
-pub slice-copy-out·partner : goal.slice-copy-out·partner
-slice-copy-out·partner g c =
-    omega (arith, c.requires.at.other, c.requires.at.sound.across_field c.args.arc.rule c.args.arc.side c.requires.at.rule, length_words c.args.sets.now)
-
 pub returns-in-Some : goal.returns-in-Some
 returns-in-Some g c =
     let rules = g.B.Book.meaning c.args.book.now in

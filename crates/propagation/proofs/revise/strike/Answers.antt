@@ -6,10 +6,6 @@ use Rattle.network.proofs.Masks.{without_is}
 use Rattle.propagation.proofs.Strikes.{is_field}
 use Rattle.propagation.proofs.revise.strike.Goals as goal
 
-pub slice-copy-out·without : goal.slice-copy-out·without
-slice-copy-out·without c =
-    omega (arith, is_field (words c.args.sets.now) c.args.field c.args.option c.requires.stands, length_words c.args.sets.now)
-
 pub bounds-sets-field : goal.bounds-sets-field
 bounds-sets-field c =
     omega (arith, is_field (words c.args.sets.now) c.args.field c.args.option c.requires.stands, length_words c.args.sets.now)

@@ -22,7 +22,7 @@ loop-i-preserved c =
     let in_range : j < length ss = omega arith in
     let next : j + 1 ≡ c.loop-i.i = omega arith in
     let rest : drop j ss ≡ s ∷ drop c.loop-i.i ss = drop_more ss j none in_range ∙ ap (λ n. s ∷ drop n ss) next in (
-      c.put_back_one_lem.ensures ∙ ap (λ ws. put_one ws s) c.loop-i.invariant.0 ∙ sym (ap (put_all (words c.args.sets.now)) rest),
+      c.put_back_one.ensures ∙ ap (λ ws. put_one ws s) c.loop-i.invariant.0 ∙ sym (ap (put_all (words c.args.sets.now)) rest),
       omega arith,
       omega arith,
     )

@@ -17,13 +17,13 @@ loop-option-preserved g c =
     let rest = c.loop-option.rest.word in
     let h = c.in-Some.ensures.least.0 in
     let l = c.requires.options d (c.loop-option.invariant.1 d h) in
-    let put = put_one (w c.loop-option.probes) (w c.put_job_lem.new.agenda) (record { field = c.args.field; option = d }) c.requires.field l c.put_job_lem.ensures.waiting in
-    let here = it_waits (w c.loop-option.probes) (w c.put_job_lem.new.agenda) (record { field = c.args.field; option = d }) c.requires.field l c.put_job_lem.ensures.waiting in
+    let put = put_one (w c.loop-option.probes) (w c.put_job.new.agenda) (record { field = c.args.field; option = d }) c.requires.field l c.put_job.ensures.waiting in
+    let here = it_waits (w c.loop-option.probes) (w c.put_job.new.agenda) (record { field = c.args.field; option = d }) c.requires.field l c.put_job.ensures.waiting in
     let after = c.in-Some.ensures.after in (
-      put_then _ (w c.loop-option.probes) (w c.put_job_lem.new.agenda) c.loop-option.invariant.0 put,
+      put_then _ (w c.loop-option.probes) (w c.put_job.new.agenda) c.loop-option.invariant.0 put,
       λ a t. c.loop-option.invariant.1 a (T_left (has rest a) _ (subst T (ap (λ v. has v a) after ∙ has_less rest d a h) t)),
-      λ a t. subst (λ v. T (has v a) ⊎ T (probes_of (w c.put_job_lem.new.agenda) c.args.field a)) (sym after)
-          (one_less (w c.loop-option.probes) (w c.put_job_lem.new.agenda) c.args.field c.args.set.word rest d put h here c.loop-option.invariant.2 a t),
+      λ a t. subst (λ v. T (has v a) ⊎ T (probes_of (w c.put_job.new.agenda) c.args.field a)) (sym after)
+          (one_less (w c.loop-option.probes) (w c.put_job.new.agenda) c.args.field c.args.set.word rest d put h here c.loop-option.invariant.2 a t),
     )
 
 pub loop-option-smaller : goal.loop-option-smaller

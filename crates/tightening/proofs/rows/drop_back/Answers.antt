@@ -9,10 +9,6 @@ use Rattle.tightening.specs.Rows.{pairs_in, less_back, Leaves, word_to}
 use Rattle.tightening.proofs.TakingAway.{place_inside, partner_option, back_start, step_drop, step_skip, step_end}
 use Rattle.tightening.proofs.rows.drop_back.Goals as goal
 
-pub slice-copy-out·waiting : goal.slice-copy-out·waiting
-slice-copy-out·waiting c =
-    omega (arith, c.place.ensures, place_inside c.args.row _ c.requires.table c.args.other c.requires.other, c.requires.table.room, length_words c.args.pairs.now)
-
 pub loop-with-init : goal.loop-with-init
 loop-with-init c =
     let row = c.args.row in
@@ -28,11 +24,6 @@ loop-with-init c =
       refl,
       λ b t. subst (λ w. T (has w b)) (sym read) t,
     )
-
-pub slice-copy-out·without : goal.slice-copy-out·without
-slice-copy-out·without c =
-    let d = partner_option c.args.row _ c.requires.table c.args.other c.requires.other c.requires.pairs c.in-Some.with (c.loop-with.invariant.2 c.in-Some.with c.in-Some.ensures.least.0) in
-    omega (arith, c.place-at.ensures, c.requires.table.few, c.requires.table.field, c.requires.table.room, c.requires.other, c.loop-with.invariant.0.long, length_words c.loop-with.pairs, length_words c.args.pairs.now)
 
 pub bounds-pairs-at : goal.bounds-pairs-at
 bounds-pairs-at c =

@@ -8,10 +8,6 @@ use Rattle.tightening.specs.Rows.{pairs_in, less_toward, Leaves, word_to, AllPas
 use Rattle.tightening.proofs.TakingAway.{place_inside, masked}
 use Rattle.tightening.proofs.rows.keep_toward.Goals as goal
 
-pub slice-copy-out·intersection : goal.slice-copy-out·intersection
-slice-copy-out·intersection c =
-    omega (arith, c.place-at.ensures, place_inside c.args.row _ c.requires.table c.args.other c.requires.other, c.requires.table.room, c.drop_back.ensures.leaves.long, length_words c.drop_back.new.pairs, length_words c.args.pairs.now)
-
 pub bounds-pairs-at : goal.bounds-pairs-at
 bounds-pairs-at c =
     omega (arith, c.place-at.ensures, place_inside c.args.row _ c.requires.table c.args.other c.requires.other, c.requires.table.room, c.drop_back.ensures.leaves.long, length_words c.drop_back.new.pairs, length_words c.args.pairs.now)
