@@ -1,6 +1,8 @@
 -- A settle of an open draft.
 use Rattle.std.proofs.Common.{◌≡◌, ℕ, ◌+◌, ◌*◌, ◌<◌, ◌≤◌, Bool, true, false, ◌&&◌, List, [], ◌∷◌, ◌++◌, length, get_or, is_err, Ok, Err, vec_items, vec_len, vec_capacity, Result, Vec, sym, refl, ap, ◌∙◌, subst, arith, MatchResult}
 use Rattle.std.proofs.lemmas.Bool.{and_from}
+use Rattle.agenda.specs.declared.agenda.Agenda.{Ghosts as AgendaGhosts}
+use Rattle.books.specs.declared.book.Book.{Ghosts as BookGhosts}
 use Rattle.faults.specs.declared.EngineFault.{EngineFault}
 use Rattle.network.specs.Network.{Rule, words}
 use Rattle.propagation.specs.Opening.{Accepted}
@@ -23,7 +25,7 @@ pub badly : (P Q : Type 0) (r : Result (Unit {0}) EngineFault) → is_err r ≡ 
 badly P Q (Ok x) e h = let z : ◌≡◌ {A = ℕ} 0 1 = cc in absurd (omega arith)
 badly P Q (Err why) e h = h
 
-module _ {B W : Type 0} (d : Draft B W) (h : d.accepted ≡ true) where
+module _ {B W : Type 0} {bs : BookGhosts B} {ws : AgendaGhosts W} (d : Draft B W bs ws) (h : d.accepted ≡ true) where
   abbrev opening : List ℕ
   opening = words (vec_items d.opening)
 
@@ -83,4 +85,15 @@ module _ {B W : Type 0} (d : Draft B W) (h : d.accepted ≡ true) where
       ap (stood opening) items ∙ stood_append opening (vec_items d.strikes) p.found
       ∙ and_from _ _ (d.struck h) (subst (λ sets. stood sets p.found ≡ true) (d.stands h) (struck_all_stood rules [] standing p.found after (p.struck []))) in
       let rise : rising (vec_items d.taken) (vec_len strikes) ≡ true = rising_longer (vec_items d.taken) (vec_len d.strikes) (vec_len strikes) (omega (arith, p.len, el)) (d.marks h) in
-      (d.some, (d.few, (d.fit, ((λ _. full), ((λ _. left), ((λ _. stands), (d.decided, ((λ _. rise), ((λ _. omega (arith, d.room h, p.cap, ec)), (d.places, tt))))))))))
+      record {
+        some = d.some;
+        few = d.few;
+        fit = d.fit;
+        filled = λ _. full;
+        stands = λ _. left;
+        struck = λ _. stands;
+        decided = d.decided;
+        marks = λ _. rise;
+        room = λ _. omega (arith, d.room h, p.cap, ec);
+        places = d.places;
+      }

@@ -1,5 +1,7 @@
 -- What a list of calls does to a draft, and the law over it from the opening on.
 use Rattle.std.specs.Prelude.{◌≡◌, ℕ, true, false, List, [], map, reverse, vec_items, Decides}
+use Rattle.agenda.specs.declared.agenda.Agenda.{Ghosts as AgendaGhosts}
+use Rattle.books.specs.declared.book.Book.{Ghosts as BookGhosts}
 use Rattle.faults.specs.declared.EngineFault.TheVariants.{NotOpened}
 use Rattle.network.specs.Network.{Rule}
 use Rattle.propagation.specs.Opening.{Accepted}
@@ -18,13 +20,13 @@ pub record MadeOf (h : List Event) (calls : List Call) (answers : List Answer) :
   pub answered : map (λ e. e.answered) h ≡ reverse answers
 
 -- the calls ran on an open draft with these answers; any other draft refused them all
-pub record Performed {B W : Type 0} (rules : List Rule) (d : Draft B W) (calls : List Call) (answers : List Answer) (d' : Draft B W) : Type 0 where
+pub record Performed {B W : Type 0} {bs : BookGhosts B} {ws : AgendaGhosts W} (rules : List Rule) (d : Draft B W bs ws) (calls : List Call) (answers : List Answer) (d' : Draft B W bs ws) : Type 0 where
   pub same : d'.accepted ≡ d.accepted
   pub ran : d.accepted ≡ true → (h : List Event) × (MadeOf h calls answers × Run rules (view d) h (view d'))
   pub shut : d.accepted ≡ false → (answers ≡ map (λ _. Refused NotOpened) calls) × (view d' ≡ view d)
 
 -- from an accepted opening the calls ran to the draft as it is, and the law holds at each point; after any other each was refused
-pub record Replays {B W : Type 0} (rules : List Rule) (sets : List ℕ) (calls : List Call) (r : Replayed B W) : Type 0 where
+pub record Replays {B W : Type 0} {bs : BookGhosts B} {ws : AgendaGhosts W} (rules : List Rule) (sets : List ℕ) (calls : List Call) (r : Replayed B W bs ws) : Type 0 where
   pub accepted : Decides r.draft.accepted (Accepted rules sets)
   pub lawful : Accepted rules sets → (h : List Event) × (MadeOf h calls (vec_items r.answers) × LawfulRun rules sets h (view r.draft))
   pub shut : (Accepted rules sets → ⊥) → (vec_items r.answers ≡ map (λ _. Refused NotOpened) calls) × (view r.draft ≡ opened sets)

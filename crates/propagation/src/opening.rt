@@ -12,7 +12,7 @@ use network::options::OptionSet;
 use network::rules::{Ends, FIELDS, RULES};
 
 // Whether some set has no option. Sets that were all looked at are known to fit.
-fn any_empty(sets: &[OptionSet]) -> bool
+pub fn any_empty(sets: &[OptionSet]) -> bool
     ensures answer { result ≡ any empty (words sets.now) }
     ensures fit { result ≡ false → Fit (words sets.now) }
 {

@@ -20,8 +20,8 @@ strike_others-requires g c =
     let found = choose_strikes (get_or (words (vec_items d.standing)) x 0) x a in
     omega (arith, has_room d f.accepted found (others_stood d f.accepted x a f.stands), ap (λ w. length (choose_strikes w x a)) f.word)
 
-pub index-mut-requires : goal.index-mut-requires
-index-mut-requires g c =
+pub index_mut-requires : goal.index_mut-requires
+index_mut-requires g c =
     let d = c.args.self.now in
     let f = c.in_ok-set.ensures in
     omega (arith, standing_long d f.accepted, opening_length d f.accepted, f.field)

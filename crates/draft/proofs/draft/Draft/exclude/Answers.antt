@@ -27,8 +27,8 @@ push_reserved-requires g c =
     let f = c.in_ok-set.ensures in
     omega (arith, has_room c.args.self.now f.accepted (exclude_strike c.args.field c.args.option ∷ []) (and_from _ true f.stands refl))
 
-pub index-mut-requires : goal.index-mut-requires
-index-mut-requires g c =
+pub index_mut-requires : goal.index_mut-requires
+index_mut-requires g c =
     let d = c.args.self.now in
     let f = c.in_ok-set.ensures in
     omega (arith, standing_long d f.accepted, opening_length d f.accepted, f.field)

@@ -1,4 +1,6 @@
 use Rattle.std.proofs.Common.{◌≡◌, List, sym, refl, ap, subst}
+use Rattle.agenda.specs.declared.agenda.Agenda.{Ghosts as AgendaGhosts}
+use Rattle.books.specs.declared.book.Book.{Ghosts as BookGhosts}
 use Rattle.network.specs.Network.{Rule}
 use Rattle.draft.specs.View.{Answers}
 use Rattle.draft.specs.declared.draft.Draft.{Draft}
@@ -8,7 +10,7 @@ use Rattle.draft.proofs.Drafts.{answers_keep_the_law}
 use Rattle.draft.proofs.draft.Draft.perform.Goals as goal
 
 -- what holds of the call that was made holds of the call that was asked for
-as_asked : {B W : Type 0} (rules : List Rule) (d d' : Draft B W) (asked made : Call) (answer told : Answer) → asked ≡ made → answer ≡ told → Answers rules d made told d' → Answers rules d asked answer d'
+as_asked : {B W : Type 0} {bs : BookGhosts B} {ws : AgendaGhosts W} (rules : List Rule) (d d' : Draft B W bs ws) (asked made : Call) (answer told : Answer) → asked ≡ made → answer ≡ told → Answers rules d made told d' → Answers rules d asked answer d'
 as_asked rules d d' asked made answer told same says a =
     subst (λ x. Answers rules d x answer d') (sym same) (subst (λ x. Answers rules d made x d') (sym says) a)
 
