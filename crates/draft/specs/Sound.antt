@@ -1,5 +1,5 @@
 -- What a draft keeps true of its sets, its record and its marks between calls.
-use Rattle.std.specs.Prelude.{ℕ, ◌^◌, ◌<◌, Bool, true, ◌&&◌, List, [], ◌∷◌, length, set, nat_le, slice_index, slice_set}
+use Rattle.std.specs.Prelude.{ℕ, ◌^◌, ◌<◌, Bool, true, ◌&&◌, List, [], ◌∷◌, length, nat_le, slice_index, slice_set}
 use Rattle.network.specs.Network.{option_limit, part}
 use Rattle.network.specs.Sets.{set_with}
 use Rattle.propagation.specs.Strikes.{without}

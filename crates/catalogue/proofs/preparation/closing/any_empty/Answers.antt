@@ -1,4 +1,4 @@
-use Rattle.std.proofs.Common.{eqb, drop, sym, ap, ◌∙◌}
+use Rattle.std.proofs.Common.{eqb, sym, ap, ◌∙◌}
 use Rattle.catalogue.specs.Content.{any}
 use Rattle.std.proofs.lemmas.List.{drop_all}
 use Rattle.catalogue.proofs.Any.{any_here, any_next}

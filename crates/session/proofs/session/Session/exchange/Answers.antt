@@ -1,4 +1,4 @@
-use Rattle.std.proofs.Common.{◌≡◌, sym, subst}
+use Rattle.std.proofs.Common.{sym, subst}
 use Rattle.session.specs.Steps.{state, Replied}
 use Rattle.session.proofs.Exchanging.{exchanged, replied_by}
 use Rattle.session.proofs.session.Session.exchange.Goals as goal

@@ -1,4 +1,4 @@
-use Rattle.std.proofs.Common.{◌≡◌, ℕ, List, [], ◌∷◌, ◌++◌, take, sym, refl, ap, ◌∙◌, inl, inr}
+use Rattle.std.proofs.Common.{◌≡◌, [], ◌∷◌, ◌++◌, take, sym, refl, ap, ◌∙◌, inl, inr}
 use Rattle.session.specs.Pending.{kept}
 use Rattle.session.proofs.Reach.{reach_again, reach_more}
 use Rattle.session.proofs.stream.Stream.feed.Goals as goal
