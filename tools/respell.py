@@ -16,20 +16,8 @@ SIGNATURE = re.compile(rf"^\s*(?:(?:abbrev|unfoldable|pub|where|let)\s+)*({NAME}
 RECORD = re.compile(rf"^\s*(?:pub\s+)?(?:record|data)\s+({NAME})")
 TOKEN = re.compile(rf"{NAME}")
 
-# Names that would fall together with a function of src/, a variant or another name.
-BY_HAND = {
-    "Wiped-out": "IsWipedOut",
-    "call-of": "call_of_lem",
-    "fields-full": "fields_full_lem",
-    "formulas-full": "formulas_full_lem",
-    "partner-in": "partner_in_lem",
-    "put-back-one": "put_back_one_lem",
-    "put-job": "put_job_lem",
-    "residue-place": "residue_place_lem",
-    "tables-full": "tables_full_lem",
-    "unfit-formula": "unfit_formula_lem",
-    "words-a-field": "words_a_field_lem",
-}
+# A name that would fall together with that of a variant.
+BY_HAND = {"Wiped-out": "IsWipedOut"}
 
 
 def files(suffix):

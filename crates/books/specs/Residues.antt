@@ -16,16 +16,16 @@ abbrev pub residue_count : ℕ
 residue_count = rule_limit * 2 * option_limit
 
 -- the place of the residue of option a on a side of rule r
-abbrev pub residue_place_lem : Side → ℕ → ℕ → ℕ
-residue_place_lem side r a = (r * 2 + side_number side) * option_limit + a
+abbrev pub residue_place : Side → ℕ → ℕ → ℕ
+residue_place side r a = (r * 2 + side_number side) * option_limit + a
 
 -- the partner that is kept for option a on a side of rule r
 abbrev pub residue : List (Option ℕ) → Side → ℕ → ℕ → Option ℕ
-residue kept side r a = slice_index_or kept (residue_place_lem side r a) None
+residue kept side r a = slice_index_or kept (residue_place side r a) None
 
 -- what is kept after an answer: b for a, and across the rule a for b
 abbrev pub kept_after : List (Option ℕ) → Side → ℕ → ℕ → Option ℕ → List (Option ℕ)
-kept_after kept side r a (Some b) = slice_set (slice_set kept (residue_place_lem side r a) (Some b)) (residue_place_lem (opposite side) r b) (Some a)
+kept_after kept side r a (Some b) = slice_set (slice_set kept (residue_place side r a) (Some b)) (residue_place (opposite side) r b) (Some a)
 kept_after kept side r a None = kept
 
 -- the kept partner is told if it is in the set and allowed

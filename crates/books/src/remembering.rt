@@ -2,7 +2,7 @@
 
 ghost use Rattle.std.specs.Prelude.{◌≡◌, replicate, None};
 ghost use Rattle.books.specs.Reads.{Partner};
-ghost use Rattle.books.specs.Residues.{residue_count, residue_place_lem, kept_after, TellsKept, Serves, InTable};
+ghost use Rattle.books.specs.Residues.{residue_count, residue_place, kept_after, TellsKept, Serves, InTable};
 
 use super::book::Book;
 use super::sides::placed;
@@ -74,7 +74,7 @@ impl<B: Book> Remembering<B> {
 
 // The place of a residue in the table.
 fn residue_place(rule: u8, side: Side, option: u8) -> usize
-    ensures { result ≡ residue_place_lem side rule option }
+    ensures { result ≡ residue_place side rule option }
 {
     let number = match side {
         Side::Left => 0,

@@ -10,7 +10,7 @@ use Rattle.catalogue.specs.Content.{Content, field_refusal, with_field, table_re
 use Rattle.frames.specs.Received.{Received}
 use Rattle.frames.specs.declared.answers.Answer.{Answer}
 use Rattle.frames.specs.declared.answers.Answer.TheVariants.{Done}
-use Rattle.frames.specs.declared.frames.Frame.{Frame as A-frame}
+use Rattle.frames.specs.declared.frames.Frame.{Frame as AFrame}
 use Rattle.frames.specs.declared.frames.Frame.TheVariants as frame
 
 -- a fault of the engine, passed up
@@ -19,7 +19,7 @@ passed None = None
 passed (Some why) = Some (Engine why)
 
 -- why a frame is refused while the catalogue is in preparation, if so
-abbrev pub refusal : Content → A-frame → Option ProgramFault
+abbrev pub refusal : Content → AFrame → Option ProgramFault
 refusal c (frame.EnterField field s) = passed (field_refusal c field)
 refusal c (frame.StartTable left right) = passed (table_refusal c (record { left = left; right = right }))
 refusal c (frame.SetRow option s) = passed (row_refusal c option)
@@ -33,7 +33,7 @@ refusal c frame.TakeBack = Some (Frame Misplaced)
 refusal c (frame.Show field) = Some (Frame Misplaced)
 
 -- what the catalogue holds once a frame is served
-abbrev pub entered : Content → A-frame → Content
+abbrev pub entered : Content → AFrame → Content
 entered c (frame.EnterField field s) = with_field c s
 entered c (frame.StartTable left right) = with_table c (record { left = left; right = right })
 entered c (frame.SetRow option s) = with_row c option s
@@ -56,17 +56,17 @@ outcome None before done = done
 outcome (Some why) before done = before
 
 -- what is answered to a line that was received, or was not
-abbrev pub served : Content → Result A-frame FrameFault → Result Answer ProgramFault
+abbrev pub served : Content → Result AFrame FrameFault → Result Answer ProgramFault
 served c (Err fault) = Err (Frame fault)
 served c (Ok f) = elim (refusal c f) [ None ↦ Ok Done | Some why ↦ Err why ]
 
-abbrev pub after : Content → Result A-frame FrameFault → Content
+abbrev pub after : Content → Result AFrame FrameFault → Content
 after c (Err fault) = c
 after c (Ok f) = outcome (refusal c f) c (entered c f)
 
 -- a line was served
 pub record Served (c : Content) (line : List ℕ) (r : Result Answer ProgramFault) (c' : Content) : Type 0 where
-  pub asked : Result A-frame FrameFault
+  pub asked : Result AFrame FrameFault
   pub received : Received line asked
   pub answers : r ≡ served c asked
   pub holds : c' ≡ after c asked

@@ -1,15 +1,21 @@
-use Rattle.std.proofs.Common.{◌≡◌, ◌^◌, [], ◌∷◌, ◌++◌, length, get_or, set, vec_items, vec_len, vec_capacity, sym, refl, ap, ◌∙◌, subst, arith}
+use Rattle.std.proofs.Common.{◌≡◌, ℕ, ◌^◌, ◌<◌, List, [], ◌∷◌, ◌++◌, length, get_or, set, vec_items, vec_len, vec_capacity, sym, refl, ap, ◌∙◌, subst, arith, rules}
 use Rattle.std.proofs.lemmas.List.{length-append}
-use Rattle.network.specs.Network.{words}
+use Rattle.network.specs.Network.{option_limit, words}
+use Rattle.network.specs.Sets.{alone}
+use Rattle.network.specs.declared.options.OptionSet.{OptionSet}
 use Rattle.network.proofs.Masks.{alone_is}
 use Rattle.network.proofs.Words.{words_set}
 use Rattle.propagation.specs.declared.record.Decision.TheVariants as decision
 use Rattle.draft.specs.Draft.{choose_strikes}
 use Rattle.draft.specs.Sound.{Filled}
 use Rattle.draft.specs.View.{view}
-use Rattle.draft.proofs.Drafts.{opening_length, standing_long, others_left, others_stood, filled_chosen, answers, has_room, grown}
+use Rattle.draft.proofs.Drafts.{Kept, opening_length, standing_long, others_left, others_stood, filled_chosen, answers, has_room, grown}
 use Rattle.draft.proofs.Steps.{same_state, chooses}
 use Rattle.draft.proofs.draft.Draft.choose.Goals as goal
+
+-- the sets with option a of field x alone there
+left_alone : (sets : List OptionSet) (x a : ℕ) → a < option_limit → (s : OptionSet) → s.word ≡ alone a → words (set sets x s) ≡ set (words sets) x (2 ^ a)
+left_alone sets x a option s is = words_set sets x s ∙ ap (λ w. set (words sets) x w) (is ∙ alone_is a option)
 
 pub strike_others-requires : goal.strike_others-requires
 strike_others-requires g c =
@@ -37,14 +43,16 @@ invariant_of-self g c =
     let strikes = c.strike_others.new.strikes in
     let taken = c.push_reserved.new.self in
     let items : vec_items strikes ≡ vec_items d.strikes ++ found = c.strike_others.ensures.items ∙ ap (λ w. vec_items d.strikes ++ choose_strikes w x a) f.word in
-    let after : words (set (vec_items d.standing) x c.only.result) ≡ set (words (vec_items d.standing)) x (2 ^ a) =
-    words_set (vec_items d.standing) x c.only.result ∙ ap (λ w. set (words (vec_items d.standing)) x w) (c.only.ensures ∙ alone_is a f.option) in
-    grown d h found (others_stood d h x a f.stands) (record { decision = decision.Choose x a; mark = c.len-mark.result })
+    let left : (s : OptionSet) → s.word ≡ alone a → words (set (vec_items d.standing) x s) ≡ set (words (vec_items d.standing)) x (2 ^ a) =
+    left_alone (vec_items d.standing) x a f.option in
+    let kept : (s : OptionSet) → s.word ≡ alone a → Kept d.accepted (vec_len d.opening) (words (vec_items d.opening)) (words (set (vec_items d.standing) x s)) (vec_items strikes) (vec_len strikes) (vec_capacity strikes) (vec_items taken) (vec_len taken) (vec_capacity taken) =
+    λ s is. grown d h found (others_stood d h x a f.stands) (record { decision = decision.Choose x a; mark = c.len-mark.result })
     _ (vec_items strikes) (vec_len strikes) (vec_capacity strikes) (vec_items taken) (vec_len taken) (vec_capacity taken)
-    (after ∙ others_left d h x a f.stands)
-    (subst Filled (sym after) (filled_chosen d h x a f.stands))
+    (left s is ∙ others_left d h x a f.stands)
+    (subst Filled (sym (left s is)) (filled_chosen d h x a f.stands))
     items (omega (arith, ap length items, length-append (vec_items d.strikes) found, strikes.ok.0, d.strikes.ok.0)) c.strike_others.ensures.capacity
-    c.len-mark.ensures c.push_reserved.ensures.items (omega arith) (omega arith) (omega arith)
+    c.len-mark.ensures c.push_reserved.ensures.items (omega arith) (omega arith) (omega arith) in
+    kept _ (search rules)
 
 pub returns : goal.returns
 returns g c =
@@ -52,8 +60,6 @@ returns g c =
     let x = c.args.field in
     let a = c.args.option in
     let f = c.in_ok-set.ensures in
-    let after : words (set (vec_items d.standing) x c.only.result) ≡ set (words (vec_items d.standing)) x (2 ^ a) =
-    words_set (vec_items d.standing) x c.only.result ∙ ap (λ w. set (words (vec_items d.standing)) x w) (c.only.ensures ∙ alone_is a f.option) in
     record {
       untouched = record { book = refl; agenda = refl };
       answer = answers d f.accepted _ _ _ _ refl
@@ -61,5 +67,5 @@ returns g c =
           (same_state _ _ refl
           (c.push_reserved.ensures.items ∙ ap (λ m. vec_items d.taken ++ record { decision = decision.Choose x a; mark = m } ∷ []) (c.len-mark.ensures ∙ d.strikes.ok.0))
           (c.strike_others.ensures.items ∙ ap (λ w. vec_items d.strikes ++ choose_strikes w x a) f.word)
-          after));
+          (left_alone (vec_items d.standing) x a f.option _ (search rules))));
     }
