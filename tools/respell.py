@@ -13,6 +13,7 @@ from pathlib import Path
 # a name of antt: letters, digits, dashes, underscores and primes
 NAME = r"[^\W\d](?:[\w'-]|(?<=\w)′)*"
 SIGNATURE = re.compile(rf"^\s*(?:(?:abbrev|unfoldable|pub|where|let)\s+)*({NAME})\s*:(?![=:])\s*(.*)$")
+ALIAS = re.compile(rf"\bas ({NAME})")
 RECORD = re.compile(rf"^\s*(?:pub\s+)?(?:record|data)\s+({NAME})")
 TOKEN = re.compile(rf"{NAME}")
 
@@ -43,12 +44,16 @@ def is_a_type(lines, at, rest):
 
 
 def declared():
-    """The names that specs/ and proofs/ declare: each with whether it is a type, and where."""
+    """The names that specs/ and proofs/ declare, aliases too: each with whether it is a type, and where."""
     found = {}
     for path in files(".antt"):
         lines = path.read_text().split("\n")
         for at, line in enumerate(lines):
             if line.lstrip().startswith("--"):
+                continue
+            if line.startswith("use "):
+                for alias in ALIAS.findall(line):
+                    found.setdefault(alias, []).append((alias[0].isupper(), path))
                 continue
             record = RECORD.match(line)
             if record:
