@@ -7,32 +7,32 @@ ghost use Rattle.agenda.specs.Numbered.{numbers};
 
 // A set of numbers up to 511, by the bits of its words.
 #[derive(Clone, Copy)]
-pub struct NumberSet {
+pub(crate) struct NumberSet {
     words: [u64; 8],
 }
 
 impl NumberSet {
-    pub fn new() -> NumberSet
+    pub(crate) fn new() -> NumberSet
         ensures { Nothing (numbers result) }
     {
         NumberSet { words: [0; 8] }
     }
 
-    pub fn contains(&self, number: u16) -> bool
+    pub(crate) fn contains(&self, number: u16) -> bool
         requires { number < number_limit }
         ensures { result ≡ numbers self.now number }
     {
         (self.words[number as usize / 64] >> (number % 64)) % 2 == 1
     }
 
-    pub fn insert(&mut self, number: u16)
+    pub(crate) fn insert(&mut self, number: u16)
         requires { number < number_limit }
         ensures { Same (with_one (numbers self.old) number) (numbers self.new) }
     {
         self.words[number as usize / 64] |= 1 << (number % 64);
     }
 
-    pub fn remove(&mut self, number: u16)
+    pub(crate) fn remove(&mut self, number: u16)
         requires { number < number_limit }
         ensures { Same (without (numbers self.old) number) (numbers self.new) }
     {
@@ -40,7 +40,7 @@ impl NumberSet {
     }
 
     // The lowest number of the set: the lowest bit of the first word that has one.
-    pub fn lowest(&self) -> Option<u16>
+    pub(crate) fn lowest(&self) -> Option<u16>
         ensures { result ≡ first_of (rising (numbers self.now) number_limit) }
     {
         for (i, word) in self.words.iter().enumerate() {

@@ -4,4 +4,4 @@ pub mod Differences
 pub mod Tables
 pub mod Pairing
 pub mod PairBooks
-pub mod Residues
+pub mod Keeping

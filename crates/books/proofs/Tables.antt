@@ -1,15 +1,16 @@
 -- The rules of a table book.
-use Rattle.std.proofs.Common.{◌≡◌, ℕ, zero, suc, ◌+◌, ◌^◌, ◌<◌, ◌≤◌, Bool, true, false, ◌&&◌, T, ltb, ◌⊎◌, List, [], ◌∷◌, length, get_or, Option, sym, refl, ap, ◌∙◌, subst, ⊎_elim, arith, lt→ltb}
+use Rattle.std.proofs.Common.{◌≡◌, ℕ, zero, suc, ◌+◌, ◌^◌, ◌<◌, ◌≤◌, Bool, true, false, ◌&&◌, T, ltb, ◌⊎◌, List, [], ◌∷◌, length, get_or, Option, sym, refl, ap, ◌∙◌, subst, inl, inr, ⊎_elim, arith, lt→ltb}
 use lib.Bits.{bit_and}
 use Rattle.network.specs.Network.{option_limit, rule_limit, has, Rule, rule_at, no_rule}
+use Rattle.std.proofs.lemmas.Bool.{cases_lt, both_ways}
 use Rattle.network.specs.Sets.{Lowest}
 use Rattle.network.specs.declared.rules.Side.{Side}
 use Rattle.network.specs.declared.rules.Side.TheVariants.{Left, Right}
 use Rattle.network.proofs.Bits.{has_and, has_below}
 use Rattle.network.specs.declared.rules.Ends.{Ends}
-use Rattle.books.specs.Reads.{asked, allowed_on, Found, Partner}
-use Rattle.books.specs.Table.{row_of, table_rule, table_rules_from, table_rules}
-use Rattle.books.proofs.Asked.{asked_is, asked_high, asked_past, allowed_on_by, between_fields, permits_at, permits_in}
+use Rattle.books.specs.Reads.{asked, between_fields, allowed_on, Found, Partner}
+use Rattle.books.specs.Table.{row_of, table_rule, table_rules_from, table_rules, ends_at, fields_at}
+use Rattle.books.proofs.Asked.{asked_is, asked_high, asked_past, allowed_on_by, permits_at, permits_in}
 use Rattle.books.proofs.Walks.{found_lowest, found_like}
 
 from_length : (first : ℕ) (ends : List Ends) (rows : List ℕ) → length (table_rules_from first ends rows) ≡ length ends
@@ -35,6 +36,21 @@ asked_table ends rows r d small h =
 pub asked_no_table : (ends : List Ends) (rows : List ℕ) (r : ℕ) → (rule_limit ≤ r) ⊎ (length ends ≤ r) → asked (table_rules ends rows) r ≡ no_rule
 asked_no_table ends rows r =
     ⊎_elim (asked_high (table_rules ends rows) r) (λ h. asked_past (table_rules ends rows) r (let l = table_length ends rows in omega arith))
+
+-- a rule of the table lies between fields if its ends do
+pub fields_known : (ends : List Ends) (rows : List ℕ) (r : ℕ) → r < rule_limit → r < length ends → fields_at ends r ≡ between_fields (asked (table_rules ends rows) r)
+fields_known ends rows r small there = sym (ap between_fields (asked_table ends rows r (record { left = 0; right = 0 }) small there))
+
+-- a rule between fields is one of the table
+pub between_tabled : (ends : List Ends) (rows : List ℕ) (r : ℕ) → between_fields (asked (table_rules ends rows) r) ≡ true → asked (table_rules ends rows) r ≡ table_rule rows r (ends_at ends r)
+between_tabled ends rows r e =
+    elim (cases_lt r rule_limit) [
+      | inl small ↦ elim (cases_lt r (length ends)) [
+        | inl lt ↦ asked_table ends rows r (record { left = 0; right = 0 }) small lt
+        | inr ge ↦ absurd (both_ways _ (ap between_fields (asked_no_table ends rows r (inr ge))) e)
+      ]
+      | inr high ↦ absurd (both_ways _ (ap between_fields (asked_no_table ends rows r (inl high))) e)
+    ]
 
 -- the test of the left option counts once
 pub once : (f x y h : Bool) → (f && ((x && y) && h)) ≡ (f && ((x && y) && (x && h)))

@@ -1,6 +1,6 @@
 -- What a catalogue holds, what entering fields and rules does to it, and when it can be closed.
-use Rattle.std.specs.Prelude.{ℕ, ◌+◌, ◌-◌, ◌*◌, Bool, true, false, cond, not, ◌||◌, List, [], ◌∷◌, length, pos, negsuc, Some, None, Ok, Err, Option, Result, ◌==◌, int_lt, nat_eq, nat_le, nat_lt}
-use Rattle.network.specs.Network.{option_limit, field_limit, rule_limit}
+use Rattle.std.specs.Prelude.{ℕ, ◌+◌, ◌-◌, ◌*◌, ◌^◌, ◌<◌, Bool, true, false, cond, not, ◌||◌, List, [], ◌∷◌, length, pos, negsuc, Some, None, Ok, Err, Option, Result, ◌==◌, int_lt, nat_eq, nat_le, nat_lt, slice_index}
+use Rattle.network.specs.Network.{option_limit, field_limit, rule_limit, words}
 use Rattle.network.specs.declared.options.OptionSet.{OptionSet}
 use Rattle.network.specs.declared.rules.Ends.{Ends}
 use Rattle.network.specs.declared.rules.FormulaRule.{FormulaRule}
@@ -107,6 +107,10 @@ outcome (Some why) before done = before
 abbrev pub any : {X : Type 0} → (X → Bool) → List X → Bool
 any test [] = false
 any test (x ∷ xs) = test x || any test xs
+
+-- each set has its options among those that a field can have
+abbrev pub Fit : List OptionSet → Type 0
+Fit sets = (x : ℕ) → slice_index (words sets) x < 2 ^ option_limit
 
 -- one of two ends is not among n fields, or they are one
 abbrev pub no_fields : ℕ → ℕ → ℕ → Bool

@@ -1,10 +1,11 @@
 -- What a draft's ghost fields say, and what they keep saying after a call.
-use Rattle.std.proofs.Common.{◌≡◌, ℕ, ◌+◌, ◌-◌, ◌^◌, ◌<◌, ◌≤◌, Bool, true, false, eqb, leb, List, [], ◌∷◌, ◌++◌, length, get_or, take, drop, set, vec_items, vec_len, vec_capacity, sym, refl, ap, ◌∙◌, subst, ⊎_elim, arith}
+use Rattle.std.proofs.Common.{◌≡◌, ℕ, ◌+◌, ◌-◌, ◌^◌, ◌<◌, ◌≤◌, Bool, true, false, cond, eqb, leb, List, [], ◌∷◌, ◌++◌, length, get_or, take, drop, set, is_ok, Ok, Err, vec_items, vec_len, vec_capacity, Decides, Result, Vec, sym, refl, ap, ◌∙◌, subst, ⊎_elim, arith, MatchResult}
+use Rattle.std.specs.declared.alloc.AllocError.{AllocError}
+use Rattle.std.specs.declared.alloc.Global.{Global}
 use Rattle.std.proofs.lemmas.Nat.{pow_pos}
 use Rattle.std.proofs.lemmas.List.{length-append, get_or_read}
 use Rattle.std.proofs.lemmas.Bool.{cases_Bool, and_from, both_ways, le-leb, eqb-true, eqb-false}
-use Rattle.agenda.specs.declared.agenda.Agenda.{Ghosts as AgendaGhosts}
-use Rattle.books.specs.declared.book.Book.{Ghosts as BookGhosts}
+use Rattle.faults.specs.declared.EngineFault.{EngineFault}
 use Rattle.network.specs.Network.{field_limit, Rule, has, part, words}
 use Rattle.network.specs.declared.options.OptionSet.{OptionSet}
 use Rattle.network.specs.Sets.{set_without}
@@ -14,14 +15,15 @@ use Rattle.network.proofs.Masks.{without_is}
 use Rattle.network.proofs.Words.{length_words, word_of}
 use Rattle.propagation.specs.Strikes.{left_by, Struck}
 use Rattle.propagation.specs.Opening.{Accepted}
+use Rattle.propagation.specs.Progress.{Filled}
+use Rattle.propagation.specs.Undo.{Fit, put_all}
 use Rattle.propagation.specs.declared.record.Decision.{Decision}
 use Rattle.propagation.specs.declared.record.Decision.TheVariants as decision
 use Rattle.propagation.specs.declared.record.Strike.{Strike}
 use Rattle.draft.specs.Draft.{Step, decision_limit, choose_strikes, latest_mark, no_decision}
 use Rattle.draft.specs.Law.{KeepsTheLaw}
-use Rattle.draft.specs.Sound.{Fit, Filled, stood, rising, put_all, record_limit}
-use Rattle.draft.specs.View.{view, Answers, Found, Ready}
-use Rattle.draft.specs.declared.draft.opens.Memory.{Memory}
+use Rattle.draft.specs.Sound.{stood, rising, record_limit}
+use Rattle.draft.specs.View.{view, Answers, Found}
 use Rattle.draft.specs.declared.draft.Draft.{Draft}
 use Rattle.draft.specs.declared.types.Taken.{Taken}
 use Rattle.draft.specs.declared.types.Call.{Call}
@@ -34,50 +36,77 @@ use Rattle.draft.proofs.Records.{struck_all_stood, length_left_by, fit_left_by, 
 
 -- the ghost fields of a draft, as a function that changes one owes them
 abbrev pub Kept : (accepted : Bool) (fields : ℕ) (opening standing : List ℕ) (strikes : List Strike) (marks room : ℕ) (taken : List Taken) (decisions places : ℕ) → Type 0
-Kept accepted fields opening standing strikes marks room taken decisions places = record {
-  some : accepted ≡ true → 0 < fields;
-  few : accepted ≡ true → fields ≤ field_limit;
-  fit : accepted ≡ true → Fit opening;
-  filled : accepted ≡ true → Filled standing;
-  stands : accepted ≡ true → standing ≡ left_by opening strikes;
-  struck : accepted ≡ true → stood opening strikes ≡ true;
-  decided : accepted ≡ true → decisions ≤ decision_limit;
-  marks : accepted ≡ true → rising taken marks ≡ true;
-  room : accepted ≡ true → record_limit ≤ room;
-  places : accepted ≡ true → decision_limit ≤ places;
-}
+Kept accepted fields opening standing strikes marks room taken decisions places =
+    (accepted ≡ true → 0 < fields) ×
+    ((accepted ≡ true → fields ≤ field_limit) ×
+    ((accepted ≡ true → Fit opening) ×
+    ((accepted ≡ true → Filled standing) ×
+    ((accepted ≡ true → standing ≡ left_by opening strikes) ×
+    ((accepted ≡ true → stood opening strikes ≡ true) ×
+    ((accepted ≡ true → decisions ≤ decision_limit) ×
+    ((accepted ≡ true → rising taken marks ≡ true) ×
+    ((accepted ≡ true → record_limit ≤ room) ×
+    ((accepted ≡ true → decision_limit ≤ places) × Unit {0})))))))))
 
 -- whatever a draft answers, it keeps the law
-pub answers_keep_the_law : {B W : Type 0} {bs : BookGhosts B} {ws : AgendaGhosts W} (rules : List Rule) (d : Draft B W bs ws) (c : Call) (answer : Answer) (d' : Draft B W bs ws) → Answers rules d c answer d' → KeepsTheLaw rules (view d) (view d')
+pub answers_keep_the_law : {B W : Type 0} (rules : List Rule) (d : Draft B W) (c : Call) (answer : Answer) (d' : Draft B W) → Answers rules d c answer d' → KeepsTheLaw rules (view d) (view d')
 answers_keep_the_law rules d c answer d' a =
     ⊎_elim
     (λ (open' : d.accepted ≡ true). step_keeps_the_law rules (view d) c answer (view d') (a.step open'))
     (λ (shut : d.accepted ≡ false). same_keeps_the_law rules (view d) (view d') (a.shut shut).1)
     (cases_Bool d.accepted)
 
--- a new draft
-pub fresh : (accepted : Bool) (rules : List Rule) (sets : List OptionSet) → (accepted ≡ true → Accepted rules (words sets)) → (m : Memory) → Ready sets m →
-    Kept accepted (vec_len m.opening) (words (vec_items m.opening)) (words (vec_items m.standing)) (vec_items m.strikes) (vec_len m.strikes) (vec_capacity m.strikes) (vec_items m.taken) (vec_len m.taken) (vec_capacity m.taken)
-fresh accepted rules sets ok m r =
-    let long : vec_len m.opening ≡ length (words sets) = m.opening.ok.0 ∙ ap length r.opening ∙ sym (length_words sets) in
-    let first = ap words r.opening in
-    let same = ap words r.standing in
-    let untouched : words (vec_items m.standing) ≡ left_by (words (vec_items m.opening)) (vec_items m.strikes) =
-    same ∙ sym (ap (λ ss. left_by (words (vec_items m.opening)) ss) r.strikes ∙ first) in
-    record {
-      some = λ h. let l = (ok h).some in omega arith;
-      few = λ h. let l = (ok h).few in omega arith;
-      fit = λ h. subst Fit (sym first) (ok h).fit;
-      filled = λ h. subst Filled (sym same) (ok h).filled;
-      stands = λ _. untouched;
-      struck = λ _. ap (λ ss. stood (words (vec_items m.opening)) ss) r.strikes;
-      decided = λ _. omega (arith, m.taken.ok.0, ap length r.taken);
-      marks = λ _. ap (λ ts. rising ts (vec_len m.strikes)) r.taken;
-      room = λ _. r.room;
-      places = λ _. r.places;
-    }
+-- a check that comes out well just if something holds decides it
+decided_by : (P : Type 0) (r : Result (Unit {0}) EngineFault) → MatchResult r (λ _. P) (λ _. P → ⊥) → Decides (is_ok r) P
+decided_by P (Ok x) h = ((λ _. h), (λ _. refl))
+decided_by P (Err why) h = ((λ e. absurd (both_ways false refl e)), (λ p. absurd (h p)))
 
-module _ {B W : Type 0} {bs : BookGhosts B} {ws : AgendaGhosts W} (d : Draft B W bs ws) (h : d.accepted ≡ true) where
+pub decides : (P : Type 0) (r : Result (Unit {0}) EngineFault) (y : Bool) → y ≡ is_ok r → MatchResult r (λ _. P) (λ _. P → ⊥) → Decides y P
+decides P r y is h = subst (λ b. Decides b P) (sym is) (decided_by P r h)
+
+-- empty memory with room for 16 sets takes what is held of sets that are no more than 16 where they are accepted
+pub taken_in : (accepted : Bool) (rules : List Rule) (sets : List OptionSet) → (accepted ≡ true → Accepted rules (words sets)) → (v v' : Vec OptionSet Global) (r : Result (Unit {0}) AllocError) (more : List OptionSet) → more ≡ cond accepted sets [] →
+    vec_items v ≡ [] → field_limit ≤ vec_capacity v → vec_items v' ≡ cond (is_ok r) (vec_items v ++ more) (vec_items v) → (vec_len v + length more ≤ vec_capacity v → is_ok r ≡ true) → vec_items v' ≡ cond accepted sets []
+taken_in accepted rules sets held v v' r more is empty room items succeeds =
+    let short : length (cond accepted sets []) ≤ field_limit =
+    ⊎_elim
+    (λ (yes : accepted ≡ true). subst (λ b. length (cond b sets []) ≤ field_limit) (sym yes) (omega (arith, (held yes).few, length_words sets)))
+    (λ (no : accepted ≡ false). subst (λ b. length (cond b sets []) ≤ field_limit) (sym no) (omega arith))
+    (cases_Bool accepted) in
+    let ok : is_ok r ≡ true = succeeds (omega (arith, v.ok.0, ap length empty, ap length is, short, room)) in
+    items ∙ ap (λ b. cond b (vec_items v ++ more) (vec_items v)) ok ∙ ap (λ l. l ++ more) empty ∙ is
+
+-- a new draft, which holds the sets only if they were accepted
+pub fresh : (accepted : Bool) (rules : List Rule) (sets : List OptionSet) → (accepted ≡ true → Accepted rules (words sets)) → (opening standing : Vec OptionSet Global) (strikes : Vec Strike Global) (taken : Vec Taken Global) →
+    (accepted ≡ true → vec_items opening ≡ sets) → (accepted ≡ true → vec_items standing ≡ sets) → vec_items strikes ≡ [] → record_limit ≤ vec_capacity strikes → vec_items taken ≡ [] → decision_limit ≤ vec_capacity taken →
+    Kept accepted (vec_len opening) (words (vec_items opening)) (words (vec_items standing)) (vec_items strikes) (vec_len strikes) (vec_capacity strikes) (vec_items taken) (vec_len taken) (vec_capacity taken)
+fresh accepted rules sets ok opening standing strikes taken first second unstruck room undecided places =
+    let long : accepted ≡ true → vec_len opening ≡ length (words sets) = λ h. opening.ok.0 ∙ ap length (first h) ∙ sym (length_words sets) in
+    let untouched : accepted ≡ true → words (vec_items standing) ≡ left_by (words (vec_items opening)) (vec_items strikes) =
+    λ h. ap words (second h) ∙ sym (ap (λ ss. left_by (words (vec_items opening)) ss) unstruck ∙ ap words (first h)) in (
+      (λ h. omega (arith, (ok h).some, long h)),
+      (
+        (λ h. omega (arith, (ok h).few, long h)),
+        (
+          (λ h. subst Fit (sym (ap words (first h))) (ok h).fit),
+          (
+            (λ h. subst Filled (sym (ap words (second h))) (ok h).filled),
+            (
+              untouched,
+              (
+                (λ _. ap (λ ss. stood (words (vec_items opening)) ss) unstruck),
+                (
+                  (λ _. omega (arith, taken.ok.0, ap length undecided)),
+                  ((λ _. ap (λ ts. rising ts (vec_len strikes)) undecided), ((λ _. room), ((λ _. places), tt))),
+                ),
+              ),
+            ),
+          ),
+        ),
+      ),
+    )
+
+module _ {B W : Type 0} (d : Draft B W) (h : d.accepted ≡ true) where
   abbrev opening : List ℕ
   opening = words (vec_items d.opening)
 
@@ -139,7 +168,7 @@ module _ {B W : Type 0} {bs : BookGhosts B} {ws : AgendaGhosts W} (d : Draft B W
     filled_chosen = filled_set standing x (2 ^ a) (d.filled h) (pow_pos a)
 
   -- a step that is taken while the draft is open
-  pub answers : (rules : List Rule) (c : Call) (answer : Answer) (d' : Draft B W bs ws) → d'.accepted ≡ d.accepted → Step rules (view d) c answer (view d') → Answers rules d c answer d'
+  pub answers : (rules : List Rule) (c : Call) (answer : Answer) (d' : Draft B W) → d'.accepted ≡ d.accepted → Step rules (view d) c answer (view d') → Answers rules d c answer d'
   answers rules c answer d' e s = record { same = e; step = λ _. s; shut = λ no. absurd (both_ways d.accepted no h) }
 
   module _ (found : List Strike) (stands : stood standing found ≡ true) where
@@ -173,18 +202,7 @@ module _ {B W : Type 0} {bs : BookGhosts B} {ws : AgendaGhosts W} (d : Draft B W
     grown t after strikes marks room taken decisions places es ef ek em er et ev ed few ep =
         let rise : rising taken marks ≡ true =
         ap (λ ts. rising ts marks) ev ∙ rising_push (vec_items d.taken) t marks ∙ and_from (rising (vec_items d.taken) t.mark) (leb t.mark marks) (ap (λ m. rising (vec_items d.taken) m) et ∙ d.marks h) (le-leb t.mark marks (omega arith)) in
-        record {
-          some = d.some;
-          few = d.few;
-          fit = d.fit;
-          filled = λ _. ef;
-          stands = λ _. all_left after strikes es ek;
-          struck = λ _. ap (λ ss. stood opening ss) ek ∙ all_stood;
-          decided = λ _. omega (arith, d.decided h);
-          marks = λ _. rise;
-          room = λ _. omega (arith, d.room h);
-          places = λ _. omega (arith, d.places h);
-        }
+        (d.some, (d.few, (d.fit, ((λ _. ef), ((λ _. all_left after strikes es ek), ((λ _. ap (λ ss. stood opening ss) ek ∙ all_stood), ((λ _. omega (arith, d.decided h)), ((λ _. rise), ((λ _. omega (arith, d.room h)), ((λ _. omega (arith, d.places h)), tt))))))))))
 
     -- strikes are made, and no decision is taken
     pub lengthened : (after : List ℕ) (strikes : List Strike) (marks room : ℕ) →
@@ -196,18 +214,7 @@ module _ {B W : Type 0} {bs : BookGhosts B} {ws : AgendaGhosts W} (d : Draft B W
         Kept d.accepted (vec_len d.opening) opening after strikes marks room (vec_items d.taken) (vec_len d.taken) (vec_capacity d.taken)
     lengthened after strikes marks room es ef ek em er =
         let rise : rising (vec_items d.taken) marks ≡ true = rising_longer (vec_items d.taken) (vec_len d.strikes) marks (omega arith) (d.marks h) in
-        record {
-          some = d.some;
-          few = d.few;
-          fit = d.fit;
-          filled = λ _. ef;
-          stands = λ _. all_left after strikes es ek;
-          struck = λ _. ap (λ ss. stood opening ss) ek ∙ all_stood;
-          decided = d.decided;
-          marks = λ _. rise;
-          room = λ _. omega (arith, d.room h);
-          places = d.places;
-        }
+        (d.some, (d.few, (d.fit, ((λ _. ef), ((λ _. all_left after strikes es ek), ((λ _. ap (λ ss. stood opening ss) ek ∙ all_stood), (d.decided, ((λ _. rise), ((λ _. omega (arith, d.room h)), (d.places, tt))))))))))
 
   -- the latest decision
   module _ (some : 0 < vec_len d.taken) where
@@ -243,15 +250,4 @@ module _ {B W : Type 0} {bs : BookGhosts B} {ws : AgendaGhosts W} (d : Draft B W
         let rise : rising taken marks ≡ true =
         ap (λ ts. rising ts marks) ev ∙ ap (λ m. rising (take (length (vec_items d.taken) - 1) (vec_items d.taken)) m) em ∙ marks_drop.0 in
         let front : stood opening strikes ≡ true = ap (λ ss. stood opening ss) ek ∙ stood_front opening (vec_items d.strikes) mark (d.fit h) (d.struck h) in
-        record {
-          some = d.some;
-          few = d.few;
-          fit = d.fit;
-          filled = λ _. full;
-          stands = λ _. es ∙ ap (λ ss. left_by opening ss) (sym ek);
-          struck = λ _. front;
-          decided = λ _. omega (arith, d.decided h);
-          marks = λ _. rise;
-          room = λ _. omega (arith, d.room h);
-          places = λ _. omega (arith, d.places h);
-        }
+        (d.some, (d.few, (d.fit, ((λ _. full), ((λ _. es ∙ ap (λ ss. left_by opening ss) (sym ek)), ((λ _. front), ((λ _. omega (arith, d.decided h)), ((λ _. rise), ((λ _. omega (arith, d.room h)), ((λ _. omega (arith, d.places h)), tt))))))))))

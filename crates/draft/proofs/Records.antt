@@ -10,7 +10,9 @@ use Rattle.network.proofs.Masks.{put_back, without_is}
 use Rattle.propagation.specs.Strikes.{without, left_by, options, Struck}
 use Rattle.propagation.specs.declared.record.Strike.{Strike}
 use Rattle.propagation.specs.declared.record.Decision.{Decision}
-use Rattle.draft.specs.Sound.{Fit, Filled, stood, first_mark, rising, put_all, record_limit}
+use Rattle.propagation.specs.Progress.{Filled}
+use Rattle.propagation.specs.Undo.{Fit, put_all}
+use Rattle.draft.specs.Sound.{stood, first_mark, rising, record_limit}
 use Rattle.draft.specs.declared.types.Taken.{Taken}
 use Rattle.draft.proofs.Sets.{field_within, fit_without, options_without}
 

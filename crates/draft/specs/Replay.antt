@@ -29,4 +29,4 @@ pub record Performed {B W : Type 0} {bs : BookGhosts B} {ws : AgendaGhosts W} (r
 pub record Replays {B W : Type 0} {bs : BookGhosts B} {ws : AgendaGhosts W} (rules : List Rule) (sets : List ℕ) (calls : List Call) (r : Replayed B W bs ws) : Type 0 where
   pub accepted : Decides r.draft.accepted (Accepted rules sets)
   pub lawful : Accepted rules sets → (h : List Event) × (MadeOf h calls (vec_items r.answers) × LawfulRun rules sets h (view r.draft))
-  pub shut : (Accepted rules sets → ⊥) → (vec_items r.answers ≡ map (λ _. Refused NotOpened) calls) × (view r.draft ≡ opened sets)
+  pub shut : (Accepted rules sets → ⊥) → (vec_items r.answers ≡ map (λ _. Refused NotOpened) calls) × (view r.draft ≡ opened [])

@@ -3,8 +3,10 @@
 ghost use Rattle.std.specs.Prelude.{◌≡◌, ◌<◌, ◌≤◌, true, vec_len, vec_capacity};
 ghost use Rattle.network.specs.Network.{words, field_limit};
 ghost use Rattle.propagation.specs.Strikes.{left_by};
+ghost use Rattle.propagation.specs.Progress.{Filled};
+ghost use Rattle.propagation.specs.Undo.{Fit};
 ghost use Rattle.draft.specs.Draft.{decision_limit};
-ghost use Rattle.draft.specs.Sound.{Fit, Filled, stood, rising, record_limit};
+ghost use Rattle.draft.specs.Sound.{stood, rising, record_limit};
 
 pub mod calls;
 pub mod opens;

@@ -1,9 +1,7 @@
-// The strike record: entering what a choose strikes, and undoing strikes.
+// The strike record: entering what a choose strikes.
 
-ghost use Rattle.std.specs.Prelude.{◌≡◌, ◌+◌, ◌≤◌, ◌++◌, length, drop, vec_len, vec_capacity};
-ghost use Rattle.network.specs.Network.{words};
+ghost use Rattle.std.specs.Prelude.{◌≡◌, ◌+◌, ◌≤◌, ◌++◌, length, vec_len, vec_capacity};
 ghost use Rattle.draft.specs.Draft.{choose_strikes};
-ghost use Rattle.draft.specs.Sound.{put_one, put_all};
 
 use network::options::{OPTIONS, OptionSet};
 use propagation::record::{Cause, Decision, Strike};
@@ -23,26 +21,5 @@ pub(crate) fn strike_others(strikes: &mut Vec<Strike>, set: OptionSet, field: u8
                 cause,
             });
         }
-    }
-}
-
-// Puts the option of one strike back, if its field is one.
-fn put_back_one(sets: &mut [OptionSet], strike: Strike)
-    ensures { words sets.new ≡ put_one (words sets.old) strike }
-{
-    let field = strike.field as usize;
-    if field < sets.len() {
-        sets[field] = sets[field].with(strike.option);
-    }
-}
-
-// Puts the options of all strikes but the first `kept` back, the latest first.
-pub(crate) fn put_back(sets: &mut [OptionSet], strikes: &[Strike], kept: usize)
-    ensures after { words sets.new ≡ put_all (words sets.old) (drop kept strikes.now) }
-{
-    let mut i = strikes.len();
-    while i > kept {
-        i -= 1;
-        put_back_one(sets, strikes[i]);
     }
 }

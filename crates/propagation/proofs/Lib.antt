@@ -8,3 +8,5 @@ pub mod Steps
 mod Puts
 pub mod Ends
 mod Deciding
+mod Chaining
+mod Neighbours

@@ -6,10 +6,12 @@ ghost use Rattle.agenda.specs.Waiting.{Nothing};
 ghost use Rattle.propagation.specs.Strikes.{options};
 ghost use Rattle.propagation.specs.Opening.{Accepted};
 ghost use Rattle.propagation.specs.Arcs.{Listed};
+ghost use Rattle.propagation.specs.Chains.{Chained};
 ghost use Rattle.propagation.specs.Progress.{Progress, SettledOn, WipedFrom};
 ghost use Rattle.propagation.specs.Turns.{Ready, Turned, Wiped};
 
 use crate::arcs::{arc_ends, list_ends, put_all, put_neighbours};
+use crate::chains::Chains;
 use crate::record::{Strike, WipedOut};
 use crate::revise::revise;
 use agenda::agenda::Agenda;
@@ -25,11 +27,13 @@ fn turn<B: Book, W: Agenda>(
     agenda: &mut W,
     strikes: &mut Vec<Strike>,
     ends: &[Ends],
+    chains: &Chains,
     arc: Arc,
 ) -> Result<(), WipedOut>
     requires ready { Ready (B.Book.meaning book.old) (words sets.old) (W.Agenda.waiting agenda.old) arc }
     requires room { vec_len strikes.old + options (words sets.old) ≤ vec_capacity strikes.old }
     requires listed { Listed (B.Book.meaning book.old) ends.now }
+    requires chained { Chained ends.now chains.now }
     ensures same { B.Book.meaning book.new ≡ B.Book.meaning book.old }
     ensures progress { Progress (B.Book.meaning book.old) (words sets.old) strikes.old (words sets.new) strikes.new }
     ensures cases { MatchResult result (λ _. Turned (B.Book.meaning book.old) (words sets.old) (W.Agenda.waiting agenda.old) (words sets.new) (W.Agenda.waiting agenda.new)) (λ w. Wiped (B.Book.meaning book.old) (words sets.new) w) }
@@ -44,7 +48,7 @@ fn turn<B: Book, W: Agenda>(
             rule: arc.rule,
         });
     }
-    put_neighbours(sets, ends, agenda, field, arc.rule);
+    put_neighbours(sets, ends, chains, agenda, field, arc.rule);
     Ok(())
 }
 
@@ -75,10 +79,11 @@ pub fn propagate<B: Book, W: Agenda>(
     let mut table = [Ends::nowhere(); RULES as usize];
     let count = list_ends(book, &mut table);
     let ends = &table[..count];
+    let chains = Chains::new(ends);
     agenda.clear();
     put_all(sets, ends, agenda);
     while let Some(arc) = take_job(agenda) {
-        if let Err(wiped) = turn(sets, book, agenda, strikes, ends, arc) {
+        if let Err(wiped) = turn(sets, book, agenda, strikes, ends, &chains, arc) {
             agenda.clear();
             return Err(wiped);
         }

@@ -1,9 +1,9 @@
 // Revising an arc: striking the options of its field that have no partner across.
 
-ghost use Rattle.std.specs.Prelude.{◌≡◌, ℕ, ◌+◌, ◌<◌, ◌≤◌, true, false, T, [], ◌∷◌, ◌++◌, vec_len, vec_capacity};
+ghost use Rattle.std.specs.Prelude.{◌≡◌, ℕ, ◌+◌, ◌<◌, ◌≤◌, true, false, T, [], ◌∷◌, ◌++◌, vec_len, vec_capacity, slice_index};
 ghost use Rattle.network.specs.Network.{part, words};
 ghost use Rattle.propagation.specs.Strikes.{without, options};
-ghost use Rattle.propagation.specs.Arcs.{Supported, ArcOk, ArcAt, Elsewhere};
+ghost use Rattle.propagation.specs.Arcs.{across, Supported, ArcOk, ArcAt, Elsewhere};
 ghost use Rattle.propagation.specs.Progress.{Progress};
 ghost use Rattle.propagation.specs.declared.record.Cause.TheVariants.{Unsupported};
 
@@ -33,33 +33,34 @@ fn strike(sets: &mut [OptionSet], strikes: &mut Vec<Strike>, arc: Arc, field: u8
     });
 }
 
-// Strikes one option of the arc's field if it has no partner across.
+// Strikes one option of the arc's field if it has no partner in the set across.
 fn revise_option<B: Book>(
     sets: &mut [OptionSet],
     book: &mut B,
     strikes: &mut Vec<Strike>,
     arc: Arc,
     field: u8,
-    other: u8,
+    partners: OptionSet,
     option: u8,
 )
-    requires at { ArcAt (B.Book.meaning book.old) (words sets.old) arc field other }
+    requires at { ArcAt (meaning book.old) (words sets.old) arc field (across (meaning book.old) arc.side arc.rule) }
+    requires partners { slice_index (words sets.old) (across (meaning book.old) arc.side arc.rule) ≡ partners.word }
     requires stands { T (part (words sets.old) field option) }
     requires room { vec_len strikes.old + options (words sets.old) ≤ vec_capacity strikes.old }
-    ensures same { B.Book.meaning book.new ≡ B.Book.meaning book.old }
-    ensures progress { Progress (B.Book.meaning book.old) (words sets.old) strikes.old (words sets.new) strikes.new }
+    ensures same { meaning book.new ≡ meaning book.old }
+    ensures progress { Progress (meaning book.old) (words sets.old) strikes.old (words sets.new) strikes.new }
     ensures elsewhere { Elsewhere (words sets.old) (words sets.new) field }
-    ensures stays { (b : ℕ) → (b ≡ option → Supported (B.Book.meaning book.old) (part (words sets.old)) arc.side arc.rule option) → T (part (words sets.old) field b) → T (part (words sets.new) field b) }
-    ensures supported { T (part (words sets.new) field option) → Supported (B.Book.meaning book.old) (part (words sets.new)) arc.side arc.rule option }
+    ensures stays { (b : ℕ) → (b ≡ option → Supported (meaning book.old) (part (words sets.old)) arc.side arc.rule option) → T (part (words sets.old) field b) → T (part (words sets.new) field b) }
+    ensures supported { T (part (words sets.new) field option) → Supported (meaning book.old) (part (words sets.new)) arc.side arc.rule option }
 {
-    if let Some(_) = book.partner(arc.rule, arc.side, option, sets[other as usize]) {
+    if let Some(_) = book.partner(arc.rule, arc.side, option, partners) {
         return;
     }
     strike(sets, strikes, arc, field, option);
 }
 
 // Strikes every option of the arc's field that has no partner across, and says whether there was one.
-pub fn revise<B: Book>(
+pub(crate) fn revise<B: Book>(
     sets: &mut [OptionSet],
     book: &mut B,
     strikes: &mut Vec<Strike>,
@@ -67,20 +68,21 @@ pub fn revise<B: Book>(
     field: u8,
     other: u8,
 ) -> bool
-    requires at { ArcAt (B.Book.meaning book.old) (words sets.old) arc field other }
+    requires at { ArcAt (meaning book.old) (words sets.old) arc field other }
     requires room { vec_len strikes.old + options (words sets.old) ≤ vec_capacity strikes.old }
-    ensures same { B.Book.meaning book.new ≡ B.Book.meaning book.old }
-    ensures progress { Progress (B.Book.meaning book.old) (words sets.old) strikes.old (words sets.new) strikes.new }
+    ensures same { meaning book.new ≡ meaning book.old }
+    ensures progress { Progress (meaning book.old) (words sets.old) strikes.old (words sets.new) strikes.new }
     ensures elsewhere { Elsewhere (words sets.old) (words sets.new) field }
-    ensures stays { (a : ℕ) → Supported (B.Book.meaning book.old) (part (words sets.old)) arc.side arc.rule a → T (part (words sets.old) field a) → T (part (words sets.new) field a) }
-    ensures consistent { ArcOk (B.Book.meaning book.old) (part (words sets.new)) arc.side arc.rule }
+    ensures stays { (a : ℕ) → Supported (meaning book.old) (part (words sets.old)) arc.side arc.rule a → T (part (words sets.old) field a) → T (part (words sets.new) field a) }
+    ensures consistent { ArcOk (meaning book.old) (part (words sets.new)) arc.side arc.rule }
     ensures unchanged { result ≡ false → words sets.new ≡ words sets.old }
     ensures changed { result ≡ true → options (words sets.new) < options (words sets.old) }
 {
     let before = strikes.len();
+    let partners = sets[other as usize];
     let mut waiting = sets[field as usize];
     while let Some(option) = waiting.take_lowest() {
-        revise_option(sets, book, strikes, arc, field, other, option);
+        revise_option(sets, book, strikes, arc, field, partners, option);
     }
     strikes.len() != before
 }

@@ -79,7 +79,7 @@ fn run(rt: &HostRuntime) -> anyhow::Result<()> {
         rows.as_mut_slice(),
         formulas.as_mut_slice(),
     );
-    let mut stream = Stream::new(Session::new(catalogue));
+    let mut stream = Stream::new(Session::new(heap, catalogue)?);
     serve(rt, &mut stream)
 }
 

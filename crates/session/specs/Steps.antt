@@ -1,7 +1,8 @@
 -- A session, and what answering one line does to it.
-use Rattle.std.specs.Prelude.{◌≡◌, ℕ, ◌+◌, ◌<◌, ◌≤◌, ◌⊎◌, List, ◌++◌, length, drop, Some, None, Ok, Err, Option, Result}
-use Rattle.catalogue.specs.Content.{Content}
+use Rattle.std.specs.Prelude.{◌≡◌, ℕ, ◌+◌, ◌<◌, ◌≤◌, cond, ◌⊎◌, List, ◌++◌, length, drop, is_some, Some, None, Ok, Err, Option, Result}
 use Rattle.catalogue.specs.View.{content}
+use Rattle.draft.specs.Law.{Lawful}
+use Rattle.draft.specs.View.{view}
 use Rattle.faults.specs.Numbers.{program_number}
 use Rattle.faults.specs.declared.LineFault.TheVariants.{ShortBuffer}
 use Rattle.faults.specs.declared.FrameFault.{FrameFault}
@@ -13,27 +14,37 @@ use Rattle.frames.specs.declared.answers.Answer.{Answer}
 use Rattle.frames.specs.declared.answers.Answer.TheVariants.{Refused}
 use Rattle.session.specs.declared.session.Session.{Session}
 use Rattle.session.specs.declared.session.Refusal.{Refusal}
-use Rattle.session.specs.Serving.{Served}
+use Rattle.session.specs.Rules.{meant}
+use Rattle.session.specs.Serving.{Situation, preparing, drafting, Served}
 
 -- how many lines a session answers
 abbrev pub last_line : ℕ
 last_line = 65535
 
--- a session by how many lines were answered, and what its catalogue holds
+-- a draft is open once its memory is no longer kept for it
+abbrev pub situation : Session → Situation
+situation s = cond (is_some s.drafting.memory) (preparing (content s.catalogue)) (drafting (meant s.drafting.draft.book) (view s.drafting.draft))
+
+-- the law holds of the draft, if one is open; of what led there no more is kept than that it did, hence the bars
+abbrev pub LawfulAt : Situation → Type 0
+LawfulAt (preparing c) = Unit {0}
+LawfulAt (drafting rules s) = ∥ Lawful rules s.opening s ∥₁
+
+-- a session by how many lines were answered, and what it is at
 pub record State : Type 0 where
   pub lines : ℕ
-  pub content : Content
+  pub situation : Situation
 
 abbrev pub state : Session → State
-state s = record { lines = s.lines; content = content s.catalogue }
+state s = record { lines = s.lines; situation = situation s }
 
 -- one line more was answered; a refusal tells its number, counted from 1
 abbrev pub Stepped : State → List ℕ → Option (Result Answer Refusal) → State → Type 0
 Stepped s line None s' = (s.lines ≡ last_line) × (s' ≡ s)
 Stepped s line (Some (Ok answer)) s' =
-    (s.lines < last_line) × (s'.lines ≡ s.lines + 1) × Served s.content line (Ok answer) s'.content
+    (s.lines < last_line) × (s'.lines ≡ s.lines + 1) × Served s.situation line (Ok answer) s'.situation
 Stepped s line (Some (Err refusal)) s' =
-    (s.lines < last_line) × (s'.lines ≡ s.lines + 1) × (refusal.line ≡ s.lines + 1) × Served s.content line (Err refusal.fault) s'.content
+    (s.lines < last_line) × (s'.lines ≡ s.lines + 1) × (refusal.line ≡ s.lines + 1) × Served s.situation line (Err refusal.fault) s'.situation
 
 -- the answer that a line gets, done or refused
 abbrev pub told_as : Result Answer Refusal → Answer
@@ -50,7 +61,7 @@ pub record Replied (s : State) (line : List ℕ) (answer : Answer) (s' : State) 
   pub before : s.lines < last_line
   pub counted : s'.lines ≡ s.lines + 1
   pub result : Result Answer ProgramFault
-  pub served : Served s.content line result s'.content
+  pub served : Served s.situation line result s'.situation
   pub replies : answer ≡ reply (s.lines + 1) result
 
 -- the session was over, and nothing changed

@@ -1,24 +1,30 @@
 // Serving lines.
 
-ghost use Rattle.std.specs.Prelude.{◌≡◌, ℕ, List, take, ◌==◌};
+ghost use Rattle.std.specs.Prelude.{◌≡◌, ℕ, true, List, take, is_some, IfOk, ◌==◌, ◌≢◌};
 ghost use Rattle.catalogue.specs.View.{content};
 ghost use Rattle.faults.specs.Numbers.{program_number};
 ghost use Rattle.frames.specs.declared.answers.Answer.TheVariants.{Refused};
-ghost use Rattle.session.specs.Serving.{refusal, entered, verdict, outcome, Served};
+ghost use Rattle.frames.specs.declared.frames.Frame.TheVariants.{Open};
+ghost use Rattle.session.specs.Serving.{preparing, refusal, entered, verdict, outcome, Served};
 ghost use Rattle.frames.specs.Lines.{line_reach};
-ghost use Rattle.session.specs.Steps.{state, last_line, told_as, Stepped, Exchanged};
+ghost use Rattle.session.specs.Steps.{situation, state, last_line, LawfulAt, told_as, Stepped, Exchanged};
 
+use crate::drafting::Drafting;
 use catalogue::preparation::Preparation;
+use draft::draft::opens::Memory;
 use faults::{FrameFault, LineFault, ProgramFault};
 use frames::answers::Answer;
 use frames::frames::{Frame, receive};
 use frames::lines::LINE_BYTES;
 use network::rules::{Ends, FormulaRule, Kind};
+use std::alloc::{AllocError, Global};
+use std::mem;
 
-// A catalogue in preparation, and how many lines were answered.
+// A catalogue in preparation, the draft that is opened over it, and how many lines were answered.
 #[derive(Drop)]
 pub struct Session<'a> {
     catalogue: Preparation<'a>,
+    drafting: Drafting<'a>,
     lines: u16,
 }
 
@@ -30,9 +36,10 @@ pub struct Refusal {
 }
 
 // Enters what a frame of the catalogue holds; any other frame is misplaced.
-fn enter(catalogue: &mut Preparation, frame: Frame) -> Result<(), ProgramFault>
+fn enter(catalogue: &mut Preparation, frame: Frame) -> Result<Answer, ProgramFault>
+    requires { frame ≢ Open }
     ensures answers { result ≡ verdict (refusal (content catalogue.old) frame) }
-    ensures after { content catalogue.new ≡ outcome (refusal (content catalogue.old) frame) (content catalogue.old) (entered (content catalogue.old) frame) }
+    ensures after { preparing (content catalogue.new) ≡ outcome (refusal (content catalogue.old) frame) (preparing (content catalogue.old)) (entered (content catalogue.old) frame) }
 {
     match frame {
         Frame::EnterField { field, set } => catalogue.enter_field(field, set)?,
@@ -51,7 +58,7 @@ fn enter(catalogue: &mut Preparation, frame: Frame) -> Result<(), ProgramFault>
         })?,
         _ => return Err(FrameFault::Misplaced.into()),
     }
-    Ok(())
+    Ok(Answer::Done)
 }
 
 impl Refusal {
@@ -77,24 +84,64 @@ fn told(res: Result<Answer, Refusal>) -> Answer
 }
 
 impl<'a> Session<'a> {
-    // A session in which no line was answered.
-    pub fn new(catalogue: Preparation<'a>) -> Session<'a>
-        ensures { state result ≡ record { lines = 0; content = content catalogue.entry } }
+    // A session in which no line was answered. All the memory it will need is got here, so that no line wants for any.
+    pub fn new(heap: Global, catalogue: Preparation<'a>) -> Result<Session<'a>, AllocError>
+        ensures { IfOk result (λ s. state s ≡ record { lines = 0; situation = preparing (content catalogue.entry) }) }
     {
-        Session {
+        let memory = Memory::reserve(heap)?;
+        let before = Memory::reserve(heap)?;
+        Ok(Session {
             catalogue,
+            drafting: Drafting::new(memory, before),
             lines: 0,
+        })
+    }
+
+    // Closes the catalogue and opens a draft over it. A catalogue that cannot be closed stays in preparation.
+    fn open(&mut self) -> Result<Answer, ProgramFault>
+        requires { is_some self.old.drafting.memory ≡ true }
+        ensures answers { result ≡ verdict (refusal (content self.old.catalogue) Open) }
+        ensures after { situation self.new ≡ outcome (refusal (content self.old.catalogue) Open) (preparing (content self.old.catalogue)) (entered (content self.old.catalogue) Open) }
+        ensures lines { self.new.lines ≡ self.old.lines }
+    {
+        let empty = Preparation::new(&mut [], &mut [], &mut [], &mut []);
+        match mem::replace(&mut self.catalogue, empty).close() {
+            Ok(closed) => {
+                let (sets, tables, formulas) = closed.into_books();
+                self.drafting.open(sets, tables, formulas);
+                Ok(Answer::Done)
+            }
+            Err(refused) => {
+                self.catalogue = refused.catalogue;
+                Err(refused.fault.into())
+            }
+        }
+    }
+
+    // Serves a frame while the catalogue is in preparation.
+    fn prepare(&mut self, frame: Frame) -> Result<Answer, ProgramFault>
+        requires { is_some self.old.drafting.memory ≡ true }
+        ensures answers { result ≡ verdict (refusal (content self.old.catalogue) frame) }
+        ensures after { situation self.new ≡ outcome (refusal (content self.old.catalogue) frame) (preparing (content self.old.catalogue)) (entered (content self.old.catalogue) frame) }
+        ensures lines { self.new.lines ≡ self.old.lines }
+    {
+        match frame {
+            Frame::Open => self.open(),
+            entry => enter(&mut self.catalogue, entry),
         }
     }
 
     // Serves one line, or passes up why not.
     fn serve(&mut self, line: &[u8]) -> Result<Answer, ProgramFault>
-        ensures served { Served (content self.old.catalogue) line.now result (content self.new.catalogue) }
+        ensures served { Served (situation self.old) line.now result (situation self.new) }
         ensures lines { self.new.lines ≡ self.old.lines }
     {
         let frame = receive(line)?;
-        enter(&mut self.catalogue, frame)?;
-        Ok(Answer::Done)
+        if self.drafting.is_open() {
+            self.drafting.ask(frame)
+        } else {
+            self.prepare(frame)
+        }
     }
 
     // Whether 65,535 lines were answered.
@@ -106,7 +153,8 @@ impl<'a> Session<'a> {
 
     // Answers one line. None, and nothing changes, once 65,535 lines were answered.
     pub fn step(&mut self, line: &[u8]) -> Option<Result<Answer, Refusal>>
-        ensures { Stepped (state self.old) line.now result (state self.new) }
+        ensures stepped { Stepped (state self.old) line.now result (state self.new) }
+        ensures law { LawfulAt (situation self.new) }
     {
         if self.is_over() {
             return None;
@@ -124,7 +172,8 @@ impl<'a> Session<'a> {
     // Answers one line with the bytes of a line, and tells how many: none once 65,535 lines were answered. A buffer
     // with less room than the longest line is refused, and nothing changes. Only the first 34 bytes of a line matter.
     pub fn exchange(&mut self, line: &[u8], out: &mut [u8]) -> Result<usize, FrameFault>
-        ensures { (whole : List ℕ) → take line_reach whole ≡ take line_reach line.now → Exchanged (state self.old) whole out.old result out.new (state self.new) }
+        ensures exchanged { (whole : List ℕ) → take line_reach whole ≡ take line_reach line.now → Exchanged (state self.old) whole out.old result out.new (state self.new) }
+        ensures law { LawfulAt (situation self.new) }
     {
         if out.len() < LINE_BYTES {
             return Err(LineFault::ShortBuffer.into());

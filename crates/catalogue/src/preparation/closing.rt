@@ -1,8 +1,8 @@
 // Closing a catalogue.
 
-ghost use Rattle.std.specs.Prelude.{◌≡◌, length, Some, None, MatchResult, nat_eq};
+ghost use Rattle.std.specs.Prelude.{◌≡◌, false, length, Some, None, MatchResult, nat_eq};
 ghost use Rattle.network.specs.Network.{rule_limit};
-ghost use Rattle.catalogue.specs.Content.{any, no_fields, rule_count, closing_refusal};
+ghost use Rattle.catalogue.specs.Content.{any, Fit, no_fields, rule_count, closing_refusal};
 ghost use Rattle.catalogue.specs.View.{content};
 
 use crate::closed::{Closed, Refused};
@@ -11,12 +11,13 @@ use faults::EngineFault;
 use network::options::OptionSet;
 use network::rules::{Ends, FIELDS, FormulaRule, RULES};
 
-// Whether some field has no option.
+// Whether some field has no option. Sets that were all looked at are known to fit.
 fn any_empty(sets: &[OptionSet]) -> bool
-    ensures { result ≡ any (λ s. nat_eq s.word 0) sets.now }
+    ensures answer { result ≡ any (λ s. nat_eq s.word 0) sets.now }
+    ensures fit { result ≡ false → Fit sets.now }
 {
     for set in sets {
-        if set.is_empty() {
+        if set.word() == 0 {
             return true;
         }
     }
@@ -55,7 +56,8 @@ fn any_unfit_formula(fields: usize, formulas: &[FormulaRule]) -> bool
 impl<'a> Preparation<'a> {
     // Why no draft can be opened over the catalogue, if so.
     fn closing_fault(&self) -> Option<EngineFault>
-        ensures { result ≡ closing_refusal (content self.now) }
+        ensures answer { result ≡ closing_refusal (content self.now) }
+        ensures fit { result ≡ None → Fit (content self.now).sets.entered }
     {
         let fields = self.sets.len();
         if fields == 0 || fields > FIELDS as usize {
@@ -77,7 +79,7 @@ impl<'a> Preparation<'a> {
 
     // Closes the catalogue, or hands it back as it was where no draft can be opened over it.
     pub fn close(self) -> Result<Closed<'a>, Refused<'a>>
-        ensures { MatchResult result (λ k. (closing_refusal (content self.entry) ≡ None) × (content k.catalogue ≡ content self.entry)) (λ e. (closing_refusal (content self.entry) ≡ Some e.fault) × (content e.catalogue ≡ content self.entry)) }
+        ensures { MatchResult result (λ k. (closing_refusal (content self.entry) ≡ None) × ((content k.catalogue ≡ content self.entry) × Fit (content self.entry).sets.entered)) (λ e. (closing_refusal (content self.entry) ≡ Some e.fault) × (content e.catalogue ≡ content self.entry)) }
     {
         match self.closing_fault() {
             Some(fault) => Err(Refused {

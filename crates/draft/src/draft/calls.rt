@@ -5,13 +5,14 @@ ghost use Rattle.draft.specs.View.{Answers, Untouched, Found, NotFound, done, sh
 ghost use Rattle.draft.specs.declared.types.Call.TheVariants as call;
 
 use crate::draft::{DECISIONS, Draft};
-use crate::record::{put_back, strike_others};
+use crate::record::strike_others;
 use crate::types::Taken;
 use agenda::agenda::Agenda;
 use books::book::Book;
 use faults::EngineFault;
 use network::options::{OPTIONS, OptionSet};
 use propagation::record::{Cause, Decision, Strike};
+use propagation::undo::put_back;
 
 impl<B: Book, W: Agenda> Draft<B, W> {
     // Tells what stands in a field.

@@ -1,49 +1,69 @@
-use Rattle.std.proofs.Common.{◌≡◌, ◌<◌, Bool, true, not, ◌&&◌, eqb, length, arith}
-use Rattle.std.proofs.lemmas.Bool.{and_from, eq-eqb, ne_eqb, not_from_false}
-use Rattle.network.specs.declared.rules.Side.TheVariants.{Left, Right}
-use Rattle.propagation.specs.Arcs.{listed_across}
-use Rattle.propagation.proofs.Puts.{both_below, both_still, neighbours_next}
+use Rattle.std.proofs.Common.{◌≡◌, ◌*◌, ◌/◌, ◌<◌, length, sym, ap, ◌∙◌, subst, arith}
+use Rattle.propagation.specs.Chains.{Next}
+use Rattle.propagation.proofs.Neighbours.{numbered, ended, chain_starts, chain_goes_on, one_still, one_below, one_more, all_put}
 use Rattle.propagation.proofs.arcs.put_neighbours.Goals as goal
 
-pub loop-rule-init : goal.loop-rule-init
-loop-rule-init g c = (c.requires.only, λ k h. h, λ r side lt. absurd (omega arith))
-
-pub put_if-requires : goal.put_if-requires
-put_if-requires g c =
-    let within : c.loop-rule.rule < length c.args.ends.now = omega (arith, c.requires.fields.few) in
-    record { rule = omega (arith, c.requires.fields.few); field = c.requires.fields.fields c.loop-rule.rule Left within }
-
-pub put_if-requires-in-loop-rule : goal.put_if-requires-in-loop-rule
-put_if-requires-in-loop-rule g c =
-    let within : c.loop-rule.rule < length c.args.ends.now = omega (arith, c.requires.fields.few) in
-    record { rule = omega (arith, c.requires.fields.few); field = c.requires.fields.fields c.loop-rule.rule Right within }
-
-pub loop-rule-preserved : goal.loop-rule-preserved
-loop-rule-preserved g c =
-    let w = g.W.Agenda.waiting in
+pub loop-arc-init : goal.loop-arc-init
+loop-arc-init g c =
     let ends = c.args.ends.now in
-    let r = c.loop-rule.rule in
+    let x = c.args.field in
+    let next : Next ends x 0 c.first-number.result = subst (Next ends x 0) (sym c.first-number.ensures) (c.requires.chained.firsts x c.requires.field) in
+    (c.requires.only, λ k h. h, chain_starts ends x c.args.revised c.first-number.result (g.W.Agenda.waiting c.args.agenda.now) next, next.within, next.here)
+
+pub arc-ends-own-requires : goal.arc-ends-own-requires
+arc-ends-own-requires g c =
+    let n = numbered c.loop-arc.number c.in-Some.arc c.in-Some.ensures in
+    let rule : c.in-Some.arc.rule ≡ c.loop-arc.number / 2 = ap (λ a. a.rule) n.is in
+    omega (arith, rule, c.loop-arc.invariant.3 n.small)
+
+pub put-if-requires : goal.put-if-requires
+put-if-requires g c =
+    let arc = c.in-Some.arc in
+    let n = numbered c.loop-arc.number arc c.in-Some.ensures in
+    let rule : arc.rule ≡ c.loop-arc.number / 2 = ap (λ a. a.rule) n.is in
+    let within : arc.rule < length c.args.ends.now = omega (arith, rule, c.loop-arc.invariant.3 n.small) in
+    record {
+      rule = omega (arith, c.requires.fields.few);
+      field = subst (λ x. x < length c.args.sets.now) (sym c.arc-ends-own.ensures.field) (c.requires.fields.fields arc.rule arc.side within);
+    }
+
+pub after-number-requires : goal.after-number-requires
+after-number-requires g c = (numbered c.loop-arc.number c.in-Some.arc c.in-Some.ensures).small
+
+pub loop-arc-preserved : goal.loop-arc-preserved
+loop-arc-preserved g c =
+    let w = g.W.Agenda.waiting c.loop-arc.agenda in
+    let w' = g.W.Agenda.waiting c.put-if.new.agenda in
+    let ends = c.args.ends.now in
     let x = c.args.field in
     let but = c.args.revised in
-    let within : r < length ends = omega (arith, c.requires.fields.few) in
-    let l : Bool = not (eqb r but) && eqb (listed_across ends Left r) x in
-    let m : Bool = not (eqb r but) && eqb (listed_across ends Right r) x in
-    let on_left : (r ≡ but → ⊥) → listed_across ends Left r ≡ x → l ≡ true =
-    λ o e. and_from (not (eqb r but)) _ (not_from_false _ (ne_eqb r but o)) (eq-eqb _ x e) in
-    let on_right : (r ≡ but → ⊥) → listed_across ends Right r ≡ x → m ≡ true =
-    λ o e. and_from (not (eqb r but)) _ (not_from_false _ (ne_eqb r but o)) (eq-eqb _ x e) in
-    let w₀ = w c.loop-rule.agenda in
-    let w₁ = w c.put_if.new.agenda in
-    let w₂ = w c.put_if-in-loop-rule.new.agenda in (
-      both_below w₀ w₁ w₂ r l m c.put_if.ensures c.put_if-in-loop-rule.ensures (length ends) within c.loop-rule.invariant.0,
-      λ k h. both_still w₀ w₁ w₂ r l m c.put_if.ensures c.put_if-in-loop-rule.ensures k (c.loop-rule.invariant.1 k h),
-      neighbours_next w₀ w₁ w₂ r l m c.put_if.ensures c.put_if-in-loop-rule.ensures ends x but on_left on_right c.loop-rule.invariant.2,
+    let j = c.loop-arc.number in
+    let j' = c.after-number.result in
+    let arc = c.in-Some.arc in
+    let inv = c.loop-arc.invariant in
+    let n = numbered j arc c.in-Some.ensures in
+    let within = inv.3 n.small in
+    let next = chain_goes_on ends c.args.chains.now x j j' c.requires.chained within (inv.4 n.small) c.after-number.ensures in (
+      one_below ends x but j arc n.is w w' c.put-if.ensures (length ends) within inv.0,
+      λ k h. one_still ends x but j arc n.is w w' c.put-if.ensures k (inv.1 k h),
+      one_more ends x but j arc n.is w w' c.put-if.ensures j' next inv.2,
+      next.within,
+      next.here,
     )
+
+pub loop-arc-smaller : goal.loop-arc-smaller
+loop-arc-smaller g c =
+    let j = c.loop-arc.number in
+    let inv = c.loop-arc.invariant in
+    let n = numbered j c.in-Some.arc c.in-Some.ensures in
+    let next = chain_goes_on c.args.ends.now c.args.chains.now c.args.field j c.after-number.result c.requires.chained (inv.3 n.small) (inv.4 n.small) c.after-number.ensures in
+    omega (arith, next.later, n.small)
 
 pub returns : goal.returns
 returns g c =
+    let inv = c.loop-arc.invariant in
     record {
-      only = c.loop-rule.invariant.0;
-      more = c.loop-rule.invariant.1;
-      every = λ r side lt. c.loop-rule.invariant.2 r side (omega (arith, c.requires.fields.few));
+      only = inv.0;
+      more = inv.1;
+      every = all_put c.args.ends.now c.args.field c.args.revised c.loop-arc.number (g.W.Agenda.waiting c.loop-arc.agenda) c.requires.fields.few (ended c.loop-arc.number c.in-default.ensures) inv.2;
     }

@@ -81,8 +81,12 @@ put_neighbours-requires g c =
     let count = c.requires.listed.count in
     let between = listed_between rules (words c.args.sets.now) ends c.requires.ready.sound c.requires.listed in
     let same : length (words c.args.sets.now) ≡ length c.revise.new.sets = omega (arith, length_words c.args.sets.now) in
+    let arc = c.args.arc in
+    let h = c.requires.ready.sound.own_field arc.rule arc.side c.requires.ready.rule in
     record {
       fields = subst (BetweenFields ends) same between;
+      chained = c.requires.chained;
+      field = omega (arith, field_is rules ends arc c.requires.listed c.requires.ready.rule c.arc-ends-field.result.0 c.arc-ends-field.ensures.field, h, c.requires.ready.sound.few);
       only = subst (λ n. OnlyBelow n (g.W.Agenda.waiting c.args.agenda.now)) (sym count) c.requires.ready.only;
     }
 

@@ -1,4 +1,4 @@
-use Rattle.std.proofs.Common.{◌≡◌, ℕ, ◌-◌, ◌^◌, ◌<◌, T, length, sym, refl, ◌∙◌, subst, inl, inr, arith}
+use Rattle.std.proofs.Common.{◌≡◌, ℕ, ◌-◌, ◌^◌, ◌<◌, T, length, get_or, sym, refl, ap, ◌∙◌, subst, inl, inr, arith}
 use Rattle.std.proofs.lemmas.Bool.{eqb-true, eqb-false, not-false, not-true}
 use Rattle.network.specs.Network.{has, part, words}
 use Rattle.network.proofs.Truth.{T_no}
@@ -9,6 +9,14 @@ use Rattle.propagation.specs.Arcs.{ArcAt, Supported, across}
 use Rattle.propagation.specs.Progress.{Progress}
 use Rattle.propagation.proofs.Steps.{Walk, walk_start, walk_next, progress_none, progress_then, progress_count, progress_shrinks, progress_still, progress_fewer, at_after, support_stays}
 use Rattle.propagation.proofs.revise.revise.Goals as goal
+
+pub slice-copy-out·partners : goal.slice-copy-out·partners
+slice-copy-out·partners g c =
+    omega (arith, c.requires.at.other, c.requires.at.sound.across_field c.args.arc.rule c.args.arc.side c.requires.at.rule, length_words c.args.sets.now)
+
+pub slice-copy-out·waiting : goal.slice-copy-out·waiting
+slice-copy-out·waiting g c =
+    omega (arith, c.requires.at.field, c.requires.at.sound.own_field c.args.arc.rule c.args.arc.side c.requires.at.rule, length_words c.args.sets.now)
 
 pub loop-option-init : goal.loop-option-init
 loop-option-init g c =
@@ -24,15 +32,24 @@ loop-option-init g c =
       subst (Walk rules (words slice) arc.side arc.rule x) (word_of slice x (record { word = 0 }) within) (walk_start rules (words slice) arc.side arc.rule x),
     )
 
-pub revise_option-requires : goal.revise_option-requires
-revise_option-requires g c =
+pub revise-option-requires : goal.revise-option-requires
+revise-option-requires g c =
     let rules = g.B.Book.meaning c.args.book.now in
     let s = words c.args.sets.now in
     let s' = words c.loop-option.sets in
     let p = c.loop-option.invariant.1 in
-    let at = at_after rules s s' c.args.strikes.now c.loop-option.strikes c.args.arc c.args.field c.args.other p c.requires.at in
+    let arc = c.args.arc in
+    let x = c.args.field in
+    let y = c.args.other in
+    let at = at_after rules s s' c.args.strikes.now c.loop-option.strikes arc x y p c.requires.at in
+    let at' : ArcAt rules s' arc x (across rules arc.side arc.rule) = subst (ArcAt rules s' arc x) at.other at in
+    let within : y < length c.args.sets.now = omega (arith, at.other, c.requires.at.sound.across_field arc.rule arc.side c.requires.at.rule, length_words c.args.sets.now) in
+    let apart : y ≡ x → ⊥ = λ e. at.sound.apart arc.rule arc.side at.rule (sym at.other ∙ e ∙ at.field) in
+    let there : get_or s' y 0 ≡ (get_or c.args.sets.now y (record { word = 0 })).word = c.loop-option.invariant.2 y apart ∙ word_of c.args.sets.now y (record { word = 0 }) within in
+    let there' : get_or s' (across rules arc.side arc.rule) 0 ≡ (get_or c.args.sets.now y (record { word = 0 })).word = ap (λ z. get_or s' z 0) (sym at.other) ∙ there in
     record {
-      at = subst (λ rs. ArcAt rs s' c.args.arc c.args.field c.args.other) (sym c.loop-option.invariant.0) at;
+      at = subst (λ rs. ArcAt rs s' arc x (across rs arc.side arc.rule)) (sym c.loop-option.invariant.0) at';
+      partners = subst (λ rs. get_or s' (across rs arc.side arc.rule) 0 ≡ (get_or c.args.sets.now y (record { word = 0 })).word) (sym c.loop-option.invariant.0) there';
       stands = c.loop-option.invariant.4.stand c.in-Some.option c.in-Some.ensures.least.0;
       room = omega (arith, progress_count rules s s' c.args.strikes.now c.loop-option.strikes p, p.cap, c.requires.room);
     }
@@ -42,16 +59,16 @@ loop-option-preserved g c =
     let rules = g.B.Book.meaning c.args.book.now in
     let s₀ = words c.args.sets.now in
     let s₁ = words c.loop-option.sets in
-    let s₂ = words c.revise_option.new.sets in
+    let s₂ = words c.revise-option.new.sets in
     let v₀ = c.args.strikes.now in
     let v₁ = c.loop-option.strikes in
-    let v₂ = c.revise_option.new.strikes in
+    let v₂ = c.revise-option.new.strikes in
     let arc = c.args.arc in
     let x = c.args.field in
     let a = c.in-Some.option in
     let w = c.loop-option.waiting.word in
     let inv = c.loop-option.invariant in
-    let done = c.revise_option.ensures in
+    let done = c.revise-option.ensures in
     let at = c.requires.at in
     let q : Progress rules s₁ v₁ s₂ v₂ = subst (λ rs. Progress rs s₁ v₁ s₂ v₂) inv.0 done.progress in
     let stays : (b : ℕ) → (b ≡ a → Supported rules (part s₁) arc.side arc.rule a) → T (part s₁ x b) → T (part s₂ x b) =
@@ -84,7 +101,7 @@ returns g c =
     let v' = c.loop-option.strikes in
     let inv = c.loop-option.invariant in
     let at = c.requires.at in
-    let none : c.loop-option.waiting.word ≡ 0 = c.in_default.ensures.least in
+    let none : c.loop-option.waiting.word ≡ 0 = c.in-default.ensures.least in
     record {
       same = inv.0;
       progress = inv.1;

@@ -1,8 +1,7 @@
-use Rattle.std.proofs.Common.{◌<◌, T, length, get_or, Some, None, sym, refl, ap, ◌∙◌, subst, arith}
+use Rattle.std.proofs.Common.{T, get_or, Some, None, sym, refl, ap, ◌∙◌, subst, arith}
 use Rattle.network.specs.Network.{part, words}
-use Rattle.network.proofs.Words.{length_words, word_of}
 use Rattle.books.specs.Reads.{Partner}
-use Rattle.propagation.specs.Arcs.{Supported}
+use Rattle.propagation.specs.Arcs.{across, Supported}
 use Rattle.propagation.proofs.Strikes.{options_without, struck_gone, stays, without_other}
 use Rattle.propagation.proofs.Steps.{progress_none, progress_strike, partner_found, partner_none}
 use Rattle.propagation.proofs.revise.revise_option.Goals as goal
@@ -10,14 +9,11 @@ use Rattle.propagation.proofs.revise.revise_option.Goals as goal
 pub returns-in-Some : goal.returns-in-Some
 returns-in-Some g c =
     let rules = g.B.Book.meaning c.args.book.now in
-    let slice = c.args.sets.now in
-    let sets = words slice in
+    let sets = words c.args.sets.now in
     let arc = c.args.arc in
-    let y = c.args.other in
-    let within : y < length slice = omega (arith, c.requires.at.other, c.requires.at.sound.across_field arc.rule arc.side c.requires.at.rule, length_words slice) in
-    let word = word_of slice y (record { word = 0 }) within in
+    let y = across rules arc.side arc.rule in
     let b = c.in-Some.field-0 in
-    let found : Partner rules arc.side arc.rule c.args.option (get_or sets y 0) (Some b) = subst (λ w. Partner rules arc.side arc.rule c.args.option w (Some b)) (sym word) c.in-Some.ensures.found in
+    let found : Partner rules arc.side arc.rule c.args.option (get_or sets y 0) (Some b) = subst (λ w. Partner rules arc.side arc.rule c.args.option w (Some b)) (sym c.requires.partners) c.in-Some.ensures.found in
     record {
       same = c.partner.ensures.same;
       progress = progress_none rules sets c.args.strikes.now;
@@ -37,16 +33,13 @@ strike-requires g c =
 pub returns : goal.returns
 returns g c =
     let rules = g.B.Book.meaning c.args.book.now in
-    let slice = c.args.sets.now in
-    let sets = words slice in
+    let sets = words c.args.sets.now in
     let arc = c.args.arc in
     let x = c.args.field in
-    let y = c.args.other in
+    let y = across rules arc.side arc.rule in
     let a = c.args.option in
     let stands = c.requires.stands in
-    let within : y < length slice = omega (arith, c.requires.at.other, c.requires.at.sound.across_field arc.rule arc.side c.requires.at.rule, length_words slice) in
-    let word = word_of slice y (record { word = 0 }) within in
-    let nobody : Partner rules arc.side arc.rule a (get_or sets y 0) None = subst (λ w. Partner rules arc.side arc.rule a w None) (sym word) c.in_default.ensures.found in
+    let nobody : Partner rules arc.side arc.rule a (get_or sets y 0) None = subst (λ w. Partner rules arc.side arc.rule a w None) (sym c.requires.partners) c.in-default.ensures.found in
     let alone : Supported rules (part sets) arc.side arc.rule a → ⊥ = partner_none rules sets arc x y a c.requires.at stands nobody in
     let sets' = words c.strike.new.sets in
     let done = c.strike.ensures in

@@ -5,7 +5,7 @@ use Rattle.network.proofs.Masks.{alone_is}
 use Rattle.network.proofs.Words.{words_set}
 use Rattle.propagation.specs.declared.record.Decision.TheVariants as decision
 use Rattle.draft.specs.Draft.{choose_strikes}
-use Rattle.draft.specs.Sound.{Filled}
+use Rattle.propagation.specs.Progress.{Filled}
 use Rattle.draft.specs.View.{view}
 use Rattle.draft.proofs.Drafts.{opening_length, standing_long, others_left, others_stood, filled_chosen, answers, has_room, grown}
 use Rattle.draft.proofs.Steps.{same_state, chooses}

@@ -4,7 +4,7 @@ use Rattle.network.specs.Network.{words}
 use Rattle.network.proofs.Words.{words_set}
 use Rattle.propagation.specs.declared.record.Decision.TheVariants as decision
 use Rattle.draft.specs.Draft.{exclude_strike}
-use Rattle.draft.specs.Sound.{Filled}
+use Rattle.propagation.specs.Progress.{Filled}
 use Rattle.draft.specs.View.{view}
 use Rattle.draft.proofs.Drafts.{opening_length, standing_long, others_are, is_last, is_not_last, filled_others, answers, has_room, grown}
 use Rattle.draft.proofs.Steps.{same_state, excludes_last, excludes}

@@ -2,7 +2,7 @@ use Rattle.std.proofs.Common.{◌≡◌, ◌-◌, ◌<◌, length, take, drop, v
 use Rattle.std.proofs.lemmas.List.{with_items_is}
 use Rattle.network.specs.Network.{words}
 use Rattle.draft.specs.Draft.{latest_mark}
-use Rattle.draft.specs.Sound.{put_all}
+use Rattle.propagation.specs.Undo.{put_all}
 use Rattle.draft.specs.View.{view}
 use Rattle.draft.proofs.Drafts.{last_read, last_within, standing_back, shrunk, answers}
 use Rattle.draft.proofs.Steps.{same_state, takes_back}

@@ -1,0 +1,6 @@
+use Rattle.std.proofs.Common.{◌≡◌, ℕ, ◌<◌, true}
+use Rattle.books.specs.Table.{fields_at}
+use Rattle.books.proofs.table.known_rules.Given as goal
+
+abbrev pub invariant-loop-rule : goal.invariant-loop-rule
+invariant-loop-rule l = (r : ℕ) → r < l.rule → fields_at l.ends r ≡ true

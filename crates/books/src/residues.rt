@@ -1,0 +1,85 @@
+// What a remembering book keeps: for each rule, side and option the partner that was told last.
+
+ghost use Rattle.std.specs.Prelude.{◌≡◌, ◌<◌, replicate, Some, None};
+ghost use Rattle.network.specs.Network.{option_limit, rule_limit};
+ghost use Rattle.books.specs.Residues.{residue_count, residue_place_lem, residue, partner_in_lem, partners_in, kept_for, InTable};
+
+use network::options::OPTIONS;
+use network::rules::{RULES, Side};
+
+// One residue for each rule, side and option.
+const RESIDUES: usize = RULES as usize * 2 * OPTIONS as usize;
+
+// A partner, or none, in one byte: a number that no option has stands for none.
+#[derive(Clone, Copy)]
+struct Residue {
+    byte: u8,
+}
+
+impl Residue {
+    fn none() -> Residue
+        ensures { partner_in_lem result ≡ None }
+    {
+        Residue { byte: u8::MAX }
+    }
+
+    fn of(partner: u8) -> Residue
+        requires { partner < option_limit }
+        ensures { partner_in_lem result ≡ Some partner }
+    {
+        Residue { byte: partner }
+    }
+
+    fn partner(self) -> Option<u8>
+        ensures { result ≡ partner_in_lem self }
+    {
+        if self.byte < OPTIONS {
+            return Some(self.byte);
+        }
+        None
+    }
+}
+
+// The table of all residues.
+#[derive(Drop)]
+pub(crate) struct Residues {
+    table: [Residue; RESIDUES],
+}
+
+impl Residues {
+    pub(crate) fn new() -> Residues
+        ensures { partners_in result ≡ replicate residue_count None }
+    {
+        Residues {
+            table: [Residue::none(); RESIDUES],
+        }
+    }
+
+    // The partner that is kept for an option on a side of a rule.
+    pub(crate) fn kept(&self, rule: u8, side: Side, option: u8) -> Option<u8>
+        requires rule { rule < rule_limit }
+        requires option { option < option_limit }
+        ensures { result ≡ residue (partners_in self.now) side rule option }
+    {
+        self.table[residue_place(rule, side, option)].partner()
+    }
+
+    // Keeps a partner for an option on a side of a rule.
+    pub(crate) fn keep(&mut self, rule: u8, side: Side, option: u8, partner: u8)
+        requires { InTable rule option (Some partner) }
+        ensures { partners_in self.new ≡ kept_for (partners_in self.old) side rule option (Some partner) }
+    {
+        self.table[residue_place(rule, side, option)] = Residue::of(partner);
+    }
+}
+
+// The place of a residue in the table.
+fn residue_place(rule: u8, side: Side, option: u8) -> usize
+    ensures { result ≡ residue_place_lem side rule option }
+{
+    let number = match side {
+        Side::Left => 0,
+        Side::Right => 1,
+    };
+    (usize::from(rule) * 2 + number) * usize::from(OPTIONS) + usize::from(option)
+}

@@ -1,0 +1,21 @@
+use Rattle.std.proofs.Common.{sym, refl, ap, ◌∙◌}
+use Rattle.std.proofs.lemmas.Bool.{cond-true}
+use Rattle.catalogue.specs.View.{content}
+use Rattle.session.specs.Serving.{preparing, refusal, entered, verdict, outcome}
+use Rattle.session.proofs.session.Session.prepare.Goals as goal
+
+pub enter-requires : goal.enter-requires
+enter-requires c = c.in-default.not-Open
+
+pub returns-in-Open : goal.returns-in-Open
+returns-in-Open c =
+    let before = content c.args.self.now.catalogue in
+    let asked = sym c.in-Open.is in
+    record {
+      answers = c.open.ensures.answers ∙ ap (λ f. verdict (refusal before f)) asked;
+      after = c.open.ensures.after ∙ ap (λ f. outcome (refusal before f) (preparing before) (entered before f)) asked;
+      lines = c.open.ensures.lines;
+    }
+
+pub returns-in-default : goal.returns-in-default
+returns-in-default c = record { answers = c.enter.ensures.answers; after = cond-true _ _ _ c.requires ∙ c.enter.ensures.after; lines = refl }

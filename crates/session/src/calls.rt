@@ -1,0 +1,51 @@
+// Frames as calls on the draft, and the draft's answers as those of a line.
+
+ghost use Rattle.std.specs.Prelude.{◌≡◌};
+ghost use Rattle.session.specs.Serving.{call_of_lem, field_of, replied};
+
+use draft::types;
+use draft::types::Call;
+use faults::ProgramFault;
+use frames::answers::Answer;
+use frames::frames::Frame;
+
+// The call that a frame asks for, if any.
+pub fn call_of(frame: Frame) -> Option<Call>
+    ensures { result ≡ call_of_lem frame }
+{
+    match frame {
+        Frame::Choose { field, option } => Some(Call::Choose { field, option }),
+        Frame::Exclude { field, option } => Some(Call::Exclude { field, option }),
+        Frame::Settle => Some(Call::Settle),
+        Frame::TakeBack => Some(Call::TakeBack),
+        Frame::Show { field } => Some(Call::Show { field }),
+        _ => None,
+    }
+}
+
+// The field that a call is about; 0 where it is about none.
+fn field_of(call: Call) -> u8
+    ensures { result ≡ field_of call }
+{
+    match call {
+        Call::Choose { field, option: _ } => field,
+        Call::Exclude { field, option: _ } => field,
+        Call::Show { field } => field,
+        Call::Settle | Call::TakeBack => 0,
+    }
+}
+
+// What a line is answered where its call was answered so.
+pub fn reply(call: Call, answer: types::Answer) -> Result<Answer, ProgramFault>
+    ensures { result ≡ replied call answer }
+{
+    match answer {
+        types::Answer::Done => Ok(Answer::Done),
+        types::Answer::Settled(struck, standing) => Ok(Answer::Settled { struck, standing }),
+        types::Answer::Shown(set) => Ok(Answer::Shown {
+            field: field_of(call),
+            set,
+        }),
+        types::Answer::Refused(why) => Err(why.into()),
+    }
+}
