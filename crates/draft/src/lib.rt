@@ -2,6 +2,8 @@
 //
 // A draft, opened and asked:           draft::Draft; draft::opens::Unopened where memory was wanting
 // What a draft is asked and answers:   types::Call, types::Answer, types::Taken
+#![tactic(auto)]
+
 pub mod draft;
 mod record;
 mod settling;

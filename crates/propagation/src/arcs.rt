@@ -16,10 +16,10 @@ use network::rules::{Ends, Side};
 
 // Lists the ends of the book's rules, so that no rule is asked for them twice, and tells how many rules there are.
 pub(crate) fn list_ends<B: Book>(book: &B, ends: &mut [Ends]) -> usize
-    requires few { length (meaning book.now) ≤ rule_limit }
-    requires room { length (meaning book.now) ≤ length ends.old }
-    ensures count { result ≡ length (meaning book.now) }
-    ensures listed { Listed (meaning book.now) (take result ends.new) }
+    requires few { length (B.Book.meaning book.now) ≤ rule_limit }
+    requires room { length (B.Book.meaning book.now) ≤ length ends.old }
+    ensures count { result ≡ length (B.Book.meaning book.now) }
+    ensures listed { Listed (B.Book.meaning book.now) (take result ends.new) }
 {
     let count = book.count();
     for rule in 0..count {
@@ -45,7 +45,7 @@ pub(crate) fn arc_ends(ends: &[Ends], arc: Arc) -> (u8, u8)
 fn put_arc<W: Agenda>(sets: &[OptionSet], agenda: &mut W, arc: Arc, field: u8)
     requires rule { arc.rule < rule_limit }
     requires field { field < length sets.now }
-    ensures { Same (with_one (waiting agenda.old) (arc_number arc)) (waiting agenda.new) }
+    ensures { Same (with_one (W.Agenda.waiting agenda.old) (arc_number arc)) (W.Agenda.waiting agenda.new) }
 {
     let _ = put_job(agenda, arc, sets[field as usize].len());
 }
@@ -54,7 +54,7 @@ fn put_arc<W: Agenda>(sets: &[OptionSet], agenda: &mut W, arc: Arc, field: u8)
 fn put_if<W: Agenda>(sets: &[OptionSet], agenda: &mut W, arc: Arc, field: u8, wanted: bool)
     requires rule { arc.rule < rule_limit }
     requires field { field < length sets.now }
-    ensures { Same (put_job_lem (waiting agenda.old) wanted (arc_number arc)) (waiting agenda.new) }
+    ensures { Same (put_job_lem (W.Agenda.waiting agenda.old) wanted (arc_number arc)) (W.Agenda.waiting agenda.new) }
 {
     if wanted {
         put_arc(sets, agenda, arc, field);
@@ -64,9 +64,9 @@ fn put_if<W: Agenda>(sets: &[OptionSet], agenda: &mut W, arc: Arc, field: u8, wa
 // Puts every arc on an agenda on which nothing waits.
 pub(crate) fn put_all<W: Agenda>(sets: &[OptionSet], ends: &[Ends], agenda: &mut W)
     requires fields { BetweenFields ends.now (length sets.now) }
-    requires nothing { Nothing (waiting agenda.old) }
-    ensures only { OnlyBelow (length ends.now) (waiting agenda.new) }
-    ensures every { AllBelow (length ends.now) (waiting agenda.new) }
+    requires nothing { Nothing (W.Agenda.waiting agenda.old) }
+    ensures only { OnlyBelow (length ends.now) (W.Agenda.waiting agenda.new) }
+    ensures every { AllBelow (length ends.now) (W.Agenda.waiting agenda.new) }
 {
     for rule in 0..ends.len() as u8 {
         let Ends { left, right } = ends[rule as usize];
@@ -96,10 +96,10 @@ pub(crate) fn put_neighbours<W: Agenda>(
     requires fields { BetweenFields ends.now (length sets.now) }
     requires chained { Chained ends.now chains.now }
     requires field { field < field_limit }
-    requires only { OnlyBelow (length ends.now) (waiting agenda.old) }
-    ensures only { OnlyBelow (length ends.now) (waiting agenda.new) }
-    ensures more { Still (waiting agenda.old) (waiting agenda.new) }
-    ensures every { Neighbours ends.now (length ends.now) field revised (waiting agenda.new) }
+    requires only { OnlyBelow (length ends.now) (W.Agenda.waiting agenda.old) }
+    ensures only { OnlyBelow (length ends.now) (W.Agenda.waiting agenda.new) }
+    ensures more { Still (W.Agenda.waiting agenda.old) (W.Agenda.waiting agenda.new) }
+    ensures every { Neighbours ends.now (length ends.now) field revised (W.Agenda.waiting agenda.new) }
 {
     let mut number = chains.first(field);
     while let Some(arc) = Arc::of_number(number) {

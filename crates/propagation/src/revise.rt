@@ -43,15 +43,15 @@ fn revise_option<B: Book>(
     partners: OptionSet,
     option: u8,
 )
-    requires at { ArcAt (meaning book.old) (words sets.old) arc field (across (meaning book.old) arc.side arc.rule) }
-    requires partners { slice_index (words sets.old) (across (meaning book.old) arc.side arc.rule) ≡ partners.word }
+    requires at { ArcAt (B.Book.meaning book.old) (words sets.old) arc field (across (B.Book.meaning book.old) arc.side arc.rule) }
+    requires partners { slice_index (words sets.old) (across (B.Book.meaning book.old) arc.side arc.rule) ≡ partners.word }
     requires stands { T (part (words sets.old) field option) }
     requires room { vec_len strikes.old + options (words sets.old) ≤ vec_capacity strikes.old }
-    ensures same { meaning book.new ≡ meaning book.old }
-    ensures progress { Progress (meaning book.old) (words sets.old) strikes.old (words sets.new) strikes.new }
+    ensures same { B.Book.meaning book.new ≡ B.Book.meaning book.old }
+    ensures progress { Progress (B.Book.meaning book.old) (words sets.old) strikes.old (words sets.new) strikes.new }
     ensures elsewhere { Elsewhere (words sets.old) (words sets.new) field }
-    ensures stays { (b : ℕ) → (b ≡ option → Supported (meaning book.old) (part (words sets.old)) arc.side arc.rule option) → T (part (words sets.old) field b) → T (part (words sets.new) field b) }
-    ensures supported { T (part (words sets.new) field option) → Supported (meaning book.old) (part (words sets.new)) arc.side arc.rule option }
+    ensures stays { (b : ℕ) → (b ≡ option → Supported (B.Book.meaning book.old) (part (words sets.old)) arc.side arc.rule option) → T (part (words sets.old) field b) → T (part (words sets.new) field b) }
+    ensures supported { T (part (words sets.new) field option) → Supported (B.Book.meaning book.old) (part (words sets.new)) arc.side arc.rule option }
 {
     if let Some(_) = book.partner(arc.rule, arc.side, option, partners) {
         return;
@@ -68,13 +68,13 @@ pub(crate) fn revise<B: Book>(
     field: u8,
     other: u8,
 ) -> bool
-    requires at { ArcAt (meaning book.old) (words sets.old) arc field other }
+    requires at { ArcAt (B.Book.meaning book.old) (words sets.old) arc field other }
     requires room { vec_len strikes.old + options (words sets.old) ≤ vec_capacity strikes.old }
-    ensures same { meaning book.new ≡ meaning book.old }
-    ensures progress { Progress (meaning book.old) (words sets.old) strikes.old (words sets.new) strikes.new }
+    ensures same { B.Book.meaning book.new ≡ B.Book.meaning book.old }
+    ensures progress { Progress (B.Book.meaning book.old) (words sets.old) strikes.old (words sets.new) strikes.new }
     ensures elsewhere { Elsewhere (words sets.old) (words sets.new) field }
-    ensures stays { (a : ℕ) → Supported (meaning book.old) (part (words sets.old)) arc.side arc.rule a → T (part (words sets.old) field a) → T (part (words sets.new) field a) }
-    ensures consistent { ArcOk (meaning book.old) (part (words sets.new)) arc.side arc.rule }
+    ensures stays { (a : ℕ) → Supported (B.Book.meaning book.old) (part (words sets.old)) arc.side arc.rule a → T (part (words sets.old) field a) → T (part (words sets.new) field a) }
+    ensures consistent { ArcOk (B.Book.meaning book.old) (part (words sets.new)) arc.side arc.rule }
     ensures unchanged { result ≡ false → words sets.new ≡ words sets.old }
     ensures changed { result ≡ true → options (words sets.new) < options (words sets.old) }
 {

@@ -1,4 +1,6 @@
 // Executed examples of the line layer, the catalogue and sessions, kept apart so that none is proved twice.
+#![tactic(auto)]
+
 #[cfg(test)]
 mod entering;
 #[cfg(test)]

@@ -3,6 +3,8 @@
 // To start:       session::Session::new, over a catalogue in preparation
 // A line:         Session::step, to an answer or a refusal; Session::exchange, from bytes to bytes
 // A byte stream:  stream::Stream with new, feed, finish, is_over
+#![tactic(auto)]
+
 mod calls;
 mod drafting;
 pub mod pending;

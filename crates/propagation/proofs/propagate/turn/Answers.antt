@@ -86,7 +86,7 @@ put_neighbours-requires g c =
     record {
       fields = subst (BetweenFields ends) same between;
       chained = c.requires.chained;
-      field = omega (arith, field_is rules ends arc c.requires.listed c.requires.ready.rule c.arc-ends-field.result.0 c.arc-ends-field.ensures.field, h, c.requires.ready.sound.few);
+      field = omega (arith, field_is rules ends arc c.requires.listed c.requires.ready.rule c.arc_ends-field.result.0 c.arc_ends-field.ensures.field, h, c.requires.ready.sound.few);
       only = subst (λ n. OnlyBelow n (g.W.Agenda.waiting c.args.agenda.now)) (sym count) c.requires.ready.only;
     }
 

@@ -10,13 +10,6 @@ use Rattle.propagation.specs.Progress.{Progress}
 use Rattle.propagation.proofs.Steps.{Walk, walk_start, walk_next, progress_none, progress_then, progress_count, progress_shrinks, progress_still, progress_fewer, at_after, support_stays}
 use Rattle.propagation.proofs.revise.revise.Goals as goal
 
-pub slice-copy-out·partners : goal.slice-copy-out·partners
-slice-copy-out·partners g c =
-    omega (arith, c.requires.at.other, c.requires.at.sound.across_field c.args.arc.rule c.args.arc.side c.requires.at.rule, length_words c.args.sets.now)
-
-pub slice-copy-out·waiting : goal.slice-copy-out·waiting
-slice-copy-out·waiting g c =
-    omega (arith, c.requires.at.field, c.requires.at.sound.own_field c.args.arc.rule c.args.arc.side c.requires.at.rule, length_words c.args.sets.now)
 
 pub loop-option-init : goal.loop-option-init
 loop-option-init g c =
@@ -32,8 +25,8 @@ loop-option-init g c =
       subst (Walk rules (words slice) arc.side arc.rule x) (word_of slice x (record { word = 0 }) within) (walk_start rules (words slice) arc.side arc.rule x),
     )
 
-pub revise-option-requires : goal.revise-option-requires
-revise-option-requires g c =
+pub revise_option-requires : goal.revise_option-requires
+revise_option-requires g c =
     let rules = g.B.Book.meaning c.args.book.now in
     let s = words c.args.sets.now in
     let s' = words c.loop-option.sets in
@@ -59,16 +52,16 @@ loop-option-preserved g c =
     let rules = g.B.Book.meaning c.args.book.now in
     let s₀ = words c.args.sets.now in
     let s₁ = words c.loop-option.sets in
-    let s₂ = words c.revise-option.new.sets in
+    let s₂ = words c.revise_option.new.sets in
     let v₀ = c.args.strikes.now in
     let v₁ = c.loop-option.strikes in
-    let v₂ = c.revise-option.new.strikes in
+    let v₂ = c.revise_option.new.strikes in
     let arc = c.args.arc in
     let x = c.args.field in
     let a = c.in-Some.option in
     let w = c.loop-option.waiting.word in
     let inv = c.loop-option.invariant in
-    let done = c.revise-option.ensures in
+    let done = c.revise_option.ensures in
     let at = c.requires.at in
     let q : Progress rules s₁ v₁ s₂ v₂ = subst (λ rs. Progress rs s₁ v₁ s₂ v₂) inv.0 done.progress in
     let stays : (b : ℕ) → (b ≡ a → Supported rules (part s₁) arc.side arc.rule a) → T (part s₁ x b) → T (part s₂ x b) =
@@ -101,7 +94,7 @@ returns g c =
     let v' = c.loop-option.strikes in
     let inv = c.loop-option.invariant in
     let at = c.requires.at in
-    let none : c.loop-option.waiting.word ≡ 0 = c.in-default.ensures.least in
+    let none : c.loop-option.waiting.word ≡ 0 = c.in_default.ensures.least in
     record {
       same = inv.0;
       progress = inv.1;

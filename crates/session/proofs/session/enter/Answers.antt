@@ -11,16 +11,16 @@ use Rattle.catalogue.specs.View.{content}
 use Rattle.session.proofs.Passing.{passes, passes_done, holds}
 use Rattle.session.proofs.session.enter.Goals as goal
 
-pub returns-in-err-start-table : goal.returns-in-err-start-table
-returns-in-err-start-table c =
-    let p = err_from_is_err_and c.from-residual-in-err-start-table.result c.from-residual-in-err-start-table.ensures.1 in
+pub returns-in_err-start_table : goal.returns-in_err-start_table
+returns-in_err-start_table c =
+    let p = err_from_is_err_and c.from_residual-in_err-start_table.result c.from_residual-in_err-start_table.ensures.1 in
     let k = content c.args.catalogue.now in
     let ends : Ends = record { left = c.in-StartTable.left; right = c.in-StartTable.right } in
-    let refused = c.in-err-start-table.ensures in
+    let refused = c.in_err-start_table.ensures in
     rw (p.1, p.2, c.in-StartTable.is)
     (record {
-      answers = passes (table_refusal k ends) c.in-err-start-table.field-0.0 refused.answers;
-      after = holds (table_refusal k ends) k (with_table k ends) (content c.start-table.new.self) refused.after;
+      answers = passes (table_refusal k ends) c.in_err-start_table.field-0.0 refused.answers;
+      after = holds (table_refusal k ends) k (with_table k ends) (content c.start_table.new.self) refused.after;
     })
 
 module _ (k after : Content) (r : Result (Unit {0}) EngineFault) (left right : ℕ) where
@@ -35,27 +35,27 @@ module _ (k after : Content) (r : Result (Unit {0}) EngineFault) (left right : �
   as_read : (kind kind' : Kind) (d d' : ℤ) → kind ≡ kind' → d ≡ d' → Enters kind d → Enters kind' d'
   as_read kind kind' d d' same_kind same e = subst (λ n. Enters n d') same_kind (subst (Enters kind) same e)
 
-pub returns-in-err-enter-formula : goal.returns-in-err-enter-formula
-returns-in-err-enter-formula c =
-    let p = err_from_is_err_and c.from-residual-in-err-enter-formula.result c.from-residual-in-err-enter-formula.ensures.1 in
+pub returns-in_err-enter_formula : goal.returns-in_err-enter_formula
+returns-in_err-enter_formula c =
+    let p = err_from_is_err_and c.from_residual-in_err-enter_formula.result c.from_residual-in_err-enter_formula.ensures.1 in
     let k = content c.args.catalogue.now in
     let a = c.in-EnterFormula in
     let fits : SFits w8 a.difference = search rules in
     let known : FormulaRule = record { left = a.left; right = a.right; kind = kind_of a.kind; difference = a.difference } in
-    let after = content c.enter-formula.new.self in
-    let refused = c.in-err-enter-formula.ensures in
-    let e = as_read k after (Err c.in-err-enter-formula.field-0.0) a.left a.right c.of-number.result (kind_of a.kind) _ a.difference c.of-number.ensures (to_z-of_z w8 a.difference fits) (refused.answers, refused.after) in
+    let after = content c.enter_formula.new.self in
+    let refused = c.in_err-enter_formula.ensures in
+    let e = as_read k after (Err c.in_err-enter_formula.field-0.0) a.left a.right c.of_number.result (kind_of a.kind) _ a.difference c.of_number.ensures (to_z-of_z w8 a.difference fits) (refused.answers, refused.after) in
     rw (p.1, p.2, a.is)
-    (record { answers = passes (formula_refusal k known) c.in-err-enter-formula.field-0.0 e.0; after = holds (formula_refusal k known) k (with_formula k known) after e.1 })
+    (record { answers = passes (formula_refusal k known) c.in_err-enter_formula.field-0.0 e.0; after = holds (formula_refusal k known) k (with_formula k known) after e.1 })
 
-pub returns-in-ok-enter-formula : goal.returns-in-ok-enter-formula
-returns-in-ok-enter-formula c =
+pub returns-in_ok-enter_formula : goal.returns-in_ok-enter_formula
+returns-in_ok-enter_formula c =
     let k = content c.args.catalogue.now in
     let a = c.in-EnterFormula in
     let fits : SFits w8 a.difference = search rules in
     let known : FormulaRule = record { left = a.left; right = a.right; kind = kind_of a.kind; difference = a.difference } in
-    let after = content c.enter-formula.new.self in
-    let done = c.in-ok-enter-formula.ensures in
-    let e = as_read k after (Ok tt) a.left a.right c.of-number.result (kind_of a.kind) _ a.difference c.of-number.ensures (to_z-of_z w8 a.difference fits) (done.answers, done.after) in
+    let after = content c.enter_formula.new.self in
+    let done = c.in_ok-enter_formula.ensures in
+    let e = as_read k after (Ok tt) a.left a.right c.of_number.result (kind_of a.kind) _ a.difference c.of_number.ensures (to_z-of_z w8 a.difference fits) (done.answers, done.after) in
     rw a.is
     (record { answers = passes_done (formula_refusal k known) tt e.0; after = holds (formula_refusal k known) k (with_formula k known) after e.1 })

@@ -7,8 +7,8 @@ use Rattle.books.proofs.PairBooks.{pair_none, pair_from_left, pair_from_right, p
 use Rattle.books.proofs.Walks.{found_none}
 use Rattle.books.proofs.pair.PairBookBook.partner.Goals as goal
 
-pub returns-in-default : goal.returns-in-default
-returns-in-default c =
+pub returns-in_default : goal.returns-in_default
+returns-in_default c =
     let n = min field_limit c.args.self.now.fields in
     let few : n ≤ field_limit = omega arith in
     let list = words c.args.self.now.words.now in
@@ -16,7 +16,7 @@ returns-in-default c =
     record {
       same = refl;
       found = found_none (allowed_on rules c.args.side c.args.rule c.args.option) c.args.set.word
-          (none_allowed rules c.args.rule (pair_none n few list c.args.rule c.in-default.ensures) c.args.side c.args.option);
+          (none_allowed rules c.args.rule (pair_none n few list c.args.rule c.in_default.ensures) c.args.side c.args.option);
     }
 
 pub returns-in-Left : goal.returns-in-Left
@@ -27,7 +27,7 @@ returns-in-Left c =
     record {
       same = refl;
       found = pair_from_left n few (words c.args.self.now.words.now) c.args.rule c.in-Some.ends.left c.in-Some.ends.right c.in-Some.ensures.0 c.in-Some.ensures.1
-          c.args.side c.args.option c.args.set.word fits (omega arith) c.in-Left.is c.partner_in_lem.result c.partner_in_lem.ensures;
+          c.args.side c.args.option c.args.set.word fits (omega arith) c.in-Left.is c.partner_in.result c.partner_in.ensures;
     }
 
 pub returns-in-Right : goal.returns-in-Right
@@ -38,7 +38,7 @@ returns-in-Right c =
     record {
       same = refl;
       found = pair_from_right n few (words c.args.self.now.words.now) c.args.rule c.in-Some.ends.left c.in-Some.ends.right c.in-Some.ensures.0 c.in-Some.ensures.1
-          c.args.side c.args.option c.args.set.word fits (omega arith) c.in-Right.is c.partner-in-in-Right.result c.partner-in-in-Right.ensures;
+          c.args.side c.args.option c.args.set.word fits (omega arith) c.in-Right.is c.partner_in-in-Right.result c.partner_in-in-Right.ensures;
     }
 
 pub returns : goal.returns

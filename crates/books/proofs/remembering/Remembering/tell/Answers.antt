@@ -16,4 +16,4 @@ returns-in-Some g c =
 
 pub keep-requires : goal.keep-requires
 keep-requires g c =
-    told_in_table (g.B.Book.meaning c.args.self.now.book) c.args.side c.args.rule c.args.option c.args.set.word (Some c.in-ok-partner.partner) c.in-ok-partner.ensures.found
+    told_in_table (g.B.Book.meaning c.args.self.now.book) c.args.side c.args.rule c.args.option c.args.set.word (Some c.in_ok-partner.partner) c.in_ok-partner.ensures.found

@@ -4,5 +4,5 @@ use Rattle.books.proofs.remembering.RememberingBook.partner.Goals as goal
 
 pub keep-requires : goal.keep-requires
 keep-requires g c =
-    let told = told_in_table (g.B.Book.meaning c.args.self.now.book) c.args.side c.args.rule c.args.option c.args.set.word (Some c.in-ok-partner.partner) c.in-ok-partner.ensures.found in
+    let told = told_in_table (g.B.Book.meaning c.args.self.now.book) c.args.side c.args.rule c.args.option c.args.set.word (Some c.in_ok-partner.partner) c.in_ok-partner.ensures.found in
     (told.0, (told.1.1, told.1.0))

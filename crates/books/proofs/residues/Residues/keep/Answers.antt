@@ -3,4 +3,4 @@ use Rattle.books.proofs.residues.Residues.keep.Goals as goal
 
 pub returns : goal.returns
 returns c =
-    kept_next c.args.self.now.table c.args.side c.args.rule c.args.option c.args.partner c.residue_place_lem.result c.of.result c.residue_place_lem.ensures c.of.ensures
+    kept_next c.args.self.now.table c.args.side c.args.rule c.args.option c.args.partner c.residue_place.result c.of.result c.residue_place.ensures c.of.ensures

@@ -10,4 +10,4 @@ returns c =
     let p = residue_place_lem c.args.side c.args.rule c.args.option in
     let whole : length table ≡ 8192 = omega arith in
     let within : p < length table = omega (arith, place_within c.args.side c.args.rule c.args.option c.requires.rule c.requires.option) in
-    c.partner.ensures ∙ ap (λ q. partner_in_lem (get_or table q (record { byte = 0 }))) c.residue_place_lem.ensures ∙ sym (get_or-map partner_in_lem table p (record { byte = 0 }) None within)
+    c.partner.ensures ∙ ap (λ q. partner_in_lem (get_or table q (record { byte = 0 }))) c.residue_place.ensures ∙ sym (get_or-map partner_in_lem table p (record { byte = 0 }) None within)

@@ -11,7 +11,7 @@ returns-then-rule-self c =
     sym (book.fields c.args.rule lt) ∙ fields_known book.ends.now (words book.rows.now) c.args.rule (omega (arith, book.few)) (omega (arith, book.there))
 
 pub returns-in-Some : goal.returns-in-Some
-returns-in-Some c = c.are-fields.ensures ∙ sym (ap between_fields c.in-Some.ensures)
+returns-in-Some c = c.are_fields.ensures ∙ sym (ap between_fields c.in-Some.ensures)
 
 pub returns-in-None : goal.returns-in-None
 returns-in-None c = sym (ap between_fields c.in-None.ensures)

@@ -15,13 +15,13 @@ returns-in-Left c =
     let rows = words c.args.self.now.rows.now in
     let rules = table_rules ends rows in
     let fits : c.args.set.word < 2 ^ option_limit = search rules in
-    let both = T_yes (c.lies-between-fields.result && ltb c.args.option option_limit) c.if-lies-between-fields-option.true in
-    let there = sym c.lies-between-fields.ensures ∙ yes_T _ (T_left c.lies-between-fields.result _ both) in
+    let both = T_yes (c.lies_between_fields.result && ltb c.args.option option_limit) c.if-lies_between_fields-option.true in
+    let there = sym c.lies_between_fields.ensures ∙ yes_T _ (T_left c.lies_between_fields.result _ both) in
     let is = between_tabled ends rows c.args.rule there in
     record {
       same = refl;
       found = from_left rules rows c.args.rule (ends_at ends c.args.rule) is c.args.side c.args.option c.args.set.word fits
-          (T_yes _ (sym (ap between_fields is) ∙ there)) (ltb→lt c.args.option option_limit (T_right c.lies-between-fields.result _ both))
+          (T_yes _ (sym (ap between_fields is) ∙ there)) (ltb→lt c.args.option option_limit (T_right c.lies_between_fields.result _ both))
           c.in-Left.is c.intersection.result.word (c.intersection.ensures ∙ ap (bit_and c.args.set.word) c.row.ensures) c.lowest.result c.lowest.ensures.least;
     }
 
@@ -31,14 +31,14 @@ returns-in-Right c =
     let rows = words c.args.self.now.rows.now in
     let rules = table_rules ends rows in
     let fits : c.args.set.word < 2 ^ option_limit = search rules in
-    let both = T_yes (c.lies-between-fields.result && ltb c.args.option option_limit) c.if-lies-between-fields-option.true in
-    let there = sym c.lies-between-fields.ensures ∙ yes_T _ (T_left c.lies-between-fields.result _ both) in
+    let both = T_yes (c.lies_between_fields.result && ltb c.args.option option_limit) c.if-lies_between_fields-option.true in
+    let there = sym c.lies_between_fields.ensures ∙ yes_T _ (T_left c.lies_between_fields.result _ both) in
     let is = between_tabled ends rows c.args.rule there in
     record {
       same = refl;
       found = from_right rules rows c.args.rule (ends_at ends c.args.rule) is c.args.side c.args.option c.args.set.word fits
-          (T_yes _ (sym (ap between_fields is) ∙ there)) (ltb→lt c.args.option option_limit (T_right c.lies-between-fields.result _ both))
-          c.in-Right.is c.partner-on-left.result c.partner-on-left.ensures;
+          (T_yes _ (sym (ap between_fields is) ∙ there)) (ltb→lt c.args.option option_limit (T_right c.lies_between_fields.result _ both))
+          c.in-Right.is c.partner_on_left.result c.partner_on_left.ensures;
     }
 
 pub returns : goal.returns
@@ -49,5 +49,5 @@ returns c =
       same = refl;
       found = found_none (allowed_on rules c.args.side c.args.rule c.args.option) c.args.set.word
           (λ b. allowed_on_by rules c.args.rule rule refl c.args.side c.args.option b
-          ∙ permits_out rule c.args.side c.args.option b (ap (λ f. f && ltb c.args.option option_limit) (sym c.lies-between-fields.ensures) ∙ c.if-lies-between-fields-option.false));
+          ∙ permits_out rule c.args.side c.args.option b (ap (λ f. f && ltb c.args.option option_limit) (sym c.lies_between_fields.ensures) ∙ c.if-lies_between_fields-option.false));
     }

@@ -7,13 +7,13 @@ use Rattle.propagation.proofs.chains.Chains.new.Goals as goal
 pub loop-rule-init : goal.loop-rule-init
 loop-rule-init c = (omega arith, chained_none c.args.ends.now c.none-chains.result c.requires.few c.none-chains.ensures)
 
-pub put-first-requires : goal.put-first-requires
-put-first-requires c =
+pub put_first-requires : goal.put_first-requires
+put_first-requires c =
     let within : c.loop-rule.rule - 1 < length c.args.ends.now = omega arith in
     record { arc = omega (arith, c.requires.few); field = c.requires.fields (c.loop-rule.rule - 1) Left within }
 
-pub put-first-requires-in-loop-rule : goal.put-first-requires-in-loop-rule
-put-first-requires-in-loop-rule c =
+pub put_first-requires-in-loop-rule : goal.put_first-requires-in-loop-rule
+put_first-requires-in-loop-rule c =
     let within : c.loop-rule.rule - 1 < length c.args.ends.now = omega arith in
     record { arc = omega (arith, c.requires.few); field = c.requires.fields (c.loop-rule.rule - 1) Right within }
 
@@ -24,8 +24,8 @@ loop-rule-preserved c =
     let within : q < length ends = omega arith in
     let start : 2 * c.loop-rule.rule ≡ 2 * (q + 1) = omega arith in (
       omega arith,
-      both_more ends c.loop-rule.chains c.put-first.new.self c.put-first-in-loop-rule.new.self q within c.requires
-          c.put-first.ensures.first c.put-first.ensures.next c.put-first-in-loop-rule.ensures.first c.put-first-in-loop-rule.ensures.next
+      both_more ends c.loop-rule.chains c.put_first.new.self c.put_first-in-loop-rule.new.self q within c.requires
+          c.put_first.ensures.first c.put_first.ensures.next c.put_first-in-loop-rule.ensures.first c.put_first-in-loop-rule.ensures.next
           (subst (λ k. ChainedFrom ends k c.loop-rule.chains) start c.loop-rule.invariant.1),
     )
 

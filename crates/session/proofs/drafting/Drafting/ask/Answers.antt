@@ -5,8 +5,8 @@ use Rattle.session.specs.Serving.{call_of_lem, Asked, Called, drafting}
 use Rattle.session.proofs.Reaching.{reached_next}
 use Rattle.session.proofs.drafting.Drafting.ask.Goals as goal
 
-pub invariant-of-self : goal.invariant-of-self
-invariant-of-self c =
+pub invariant_of-self : goal.invariant_of-self
+invariant_of-self c =
     let self = c.args.self.now in
     let after = c.perform-answer.new.self in
     let told = c.perform-answer.ensures in
@@ -25,7 +25,7 @@ returns c =
     let told = c.perform-answer.ensures in
     let rules = meant self.draft.book in
     let leaves = drafting (meant after.book) (view after) in
-    let asks : Some c.in-Some.call ≡ call_of_lem c.args.frame = sym c.in-Some.is ∙ c.call_of_lem.ensures in
+    let asks : Some c.in-Some.call ≡ call_of_lem c.args.frame = sym c.in-Some.is ∙ c.call_of.ensures in
     let called : Called rules (view self.draft) c.in-Some.call c.reply.result leaves =
     record {
       answer = c.perform-answer.result;

@@ -3,12 +3,12 @@ use Rattle.network.specs.Network.{words}
 use Rattle.session.proofs.Opened.{opened_over}
 use Rattle.session.proofs.drafting.Drafting.open.Goals as goal
 
-pub invariant-of-self : goal.invariant-of-self
-invariant-of-self c =
-    let new = opened_over c.args.tables c.args.formulas (words c.args.sets.now) c.new.result c.new-book.result c.open-in.result c.new.ensures.first c.new.ensures.second c.new-book.ensures.book c.open-in.ensures.opens c.requires.accepted in
+pub invariant_of-self : goal.invariant_of-self
+invariant_of-self c =
+    let new = opened_over c.args.tables c.args.formulas (words c.args.sets.now) c.new.result c.new-book.result c.open_in.result c.new.ensures.first c.new.ensures.second c.new-book.ensures.book c.open_in.ensures.opens c.requires.accepted in
     ((λ _. new.accepted), ((λ _. new.reached), tt))
 
 pub returns : goal.returns
 returns c =
-    let new = opened_over c.args.tables c.args.formulas (words c.args.sets.now) c.new.result c.new-book.result c.open-in.result c.new.ensures.first c.new.ensures.second c.new-book.ensures.book c.open-in.ensures.opens c.requires.accepted in
+    let new = opened_over c.args.tables c.args.formulas (words c.args.sets.now) c.new.result c.new-book.result c.open_in.result c.new.ensures.first c.new.ensures.second c.new-book.ensures.book c.open_in.ensures.opens c.requires.accepted in
     record { memory = ap is_some c.take.ensures.after; rules = new.rules; state = new.state }

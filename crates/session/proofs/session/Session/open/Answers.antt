@@ -13,11 +13,11 @@ use Rattle.session.proofs.session.Session.open.Goals as goal
 pub open-requires : goal.open-requires
 open-requires c =
     let closes = c.in-Ok.ensures in
-    let books = c.into-books.ensures in
+    let books = c.into_books.ensures in
     let held = closes.1.0 in
     record {
       accepted = accepted_over (content c.in-Ok.closed.catalogue) (subst (λ k. closing_refusal k ≡ None) (sym held) closes.0) (subst (λ k. Fit k.sets.entered) (sym held) closes.1.1)
-          c.into-books.result.0.now c.into-books.result.1 c.into-books.result.2 books.sets books.ends books.rows books.formulas;
+          c.into_books.result.0.now c.into_books.result.1 c.into_books.result.2 books.sets books.ends books.rows books.formulas;
       waits = c.requires;
     }
 
@@ -25,12 +25,12 @@ pub returns-in-Ok : goal.returns-in-Ok
 returns-in-Ok c =
     let before = content c.args.self.now.catalogue in
     let closes = c.in-Ok.ensures in
-    let books = c.into-books.ensures in
+    let books = c.into_books.ensures in
     let none : closing_refusal before ≡ None = ap (λ p. closing_refusal (content p)) (sym c.replace.ensures.value) ∙ closes.0 in
     let held : content c.in-Ok.closed.catalogue ≡ before = closes.1.0 ∙ ap content c.replace.ensures.value in
     let draft = c.open.new.self.draft in
     let rules : meant draft.book ≡ rules_of before =
-    c.open.ensures.rules ∙ books_mean (content c.in-Ok.closed.catalogue) c.into-books.result.1 c.into-books.result.2 books.ends books.rows books.formulas ∙ ap rules_of held in
+    c.open.ensures.rules ∙ books_mean (content c.in-Ok.closed.catalogue) c.into_books.result.1 c.into_books.result.2 books.ends books.rows books.formulas ∙ ap rules_of held in
     let state : view draft ≡ opened (words before.sets.entered) = c.open.ensures.state ∙ ap (λ s. opened (words s)) books.sets ∙ ap (λ k. opened (words k.sets.entered)) held in
     record {
       answers = sym (ap (λ o. verdict (passed o)) none);

@@ -5,7 +5,7 @@ use Rattle.session.specs.Serving.{preparing, refusal, entered, verdict, outcome}
 use Rattle.session.proofs.session.Session.prepare.Goals as goal
 
 pub enter-requires : goal.enter-requires
-enter-requires c = c.in-default.not-Open
+enter-requires c = c.in_default.not-Open
 
 pub returns-in-Open : goal.returns-in-Open
 returns-in-Open c =
@@ -17,5 +17,5 @@ returns-in-Open c =
       lines = c.open.ensures.lines;
     }
 
-pub returns-in-default : goal.returns-in-default
-returns-in-default c = record { answers = c.enter.ensures.answers; after = cond-true _ _ _ c.requires ∙ c.enter.ensures.after; lines = refl }
+pub returns-in_default : goal.returns-in_default
+returns-in_default c = record { answers = c.enter.ensures.answers; after = cond-true _ _ _ c.requires ∙ c.enter.ensures.after; lines = refl }
