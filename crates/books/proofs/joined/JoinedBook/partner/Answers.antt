@@ -20,10 +20,10 @@ returns-in-Second g c =
     let xs = g.F.Book.meaning c.args.self.now.first in
     let ys = g.S.Book.meaning c.args.self.now.second in
     record {
-      same = ap (λ zs. xs ++ zs) c.partner_in-Second.ensures.same;
+      same = ap (λ zs. xs ++ zs) c.partner-in-Second.ensures.same;
       found = found_like (allowed_on ys c.args.side c.in-Second.own c.args.option) (allowed_on (xs ++ ys) c.args.side c.args.rule c.args.option) c.args.set.word
           (λ b t. sym (allowed_on_like (xs ++ ys) ys c.args.rule c.in-Second.own c.in-Second.ensures c.args.side c.args.option b))
-          c.partner_in-Second.result c.partner_in-Second.ensures.found;
+          c.partner-in-Second.result c.partner-in-Second.ensures.found;
     }
 
 pub returns-in-Nowhere : goal.returns-in-Nowhere
