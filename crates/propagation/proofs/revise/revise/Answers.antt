@@ -10,7 +10,6 @@ use Rattle.propagation.specs.Progress.{Progress}
 use Rattle.propagation.proofs.Steps.{Walk, walk_start, walk_next, progress_none, progress_then, progress_count, progress_shrinks, progress_still, progress_fewer, at_after, support_stays}
 use Rattle.propagation.proofs.revise.revise.Goals as goal
 
-
 pub loop-option-init : goal.loop-option-init
 loop-option-init g c =
     let rules = g.B.Book.meaning c.args.book.now in
