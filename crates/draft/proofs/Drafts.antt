@@ -5,6 +5,8 @@ use Rattle.std.specs.declared.alloc.Global.{Global}
 use Rattle.std.proofs.lemmas.Nat.{pow_pos}
 use Rattle.std.proofs.lemmas.List.{length-append, get_or_read}
 use Rattle.std.proofs.lemmas.Bool.{cases_Bool, and_from, both_ways, le-leb, eqb-true, eqb-false}
+use Rattle.agenda.specs.declared.agenda.Agenda.{Ghosts as AgendaGhosts}
+use Rattle.books.specs.declared.book.Book.{Ghosts as BookGhosts}
 use Rattle.faults.specs.declared.EngineFault.{EngineFault}
 use Rattle.network.specs.Network.{field_limit, Rule, has, part, words}
 use Rattle.network.specs.declared.options.OptionSet.{OptionSet}
@@ -36,20 +38,21 @@ use Rattle.draft.proofs.Records.{struck_all_stood, length_left_by, fit_left_by, 
 
 -- the ghost fields of a draft, as a function that changes one owes them
 abbrev pub Kept : (accepted : Bool) (fields : ℕ) (opening standing : List ℕ) (strikes : List Strike) (marks room : ℕ) (taken : List Taken) (decisions places : ℕ) → Type 0
-Kept accepted fields opening standing strikes marks room taken decisions places =
-    (accepted ≡ true → 0 < fields) ×
-    ((accepted ≡ true → fields ≤ field_limit) ×
-    ((accepted ≡ true → Fit opening) ×
-    ((accepted ≡ true → Filled standing) ×
-    ((accepted ≡ true → standing ≡ left_by opening strikes) ×
-    ((accepted ≡ true → stood opening strikes ≡ true) ×
-    ((accepted ≡ true → decisions ≤ decision_limit) ×
-    ((accepted ≡ true → rising taken marks ≡ true) ×
-    ((accepted ≡ true → record_limit ≤ room) ×
-    ((accepted ≡ true → decision_limit ≤ places) × Unit {0})))))))))
+Kept accepted fields opening standing strikes marks room taken decisions places = record {
+  some : accepted ≡ true → 0 < fields;
+  few : accepted ≡ true → fields ≤ field_limit;
+  fit : accepted ≡ true → Fit opening;
+  filled : accepted ≡ true → Filled standing;
+  stands : accepted ≡ true → standing ≡ left_by opening strikes;
+  struck : accepted ≡ true → stood opening strikes ≡ true;
+  decided : accepted ≡ true → decisions ≤ decision_limit;
+  marks : accepted ≡ true → rising taken marks ≡ true;
+  room : accepted ≡ true → record_limit ≤ room;
+  places : accepted ≡ true → decision_limit ≤ places;
+}
 
 -- whatever a draft answers, it keeps the law
-pub answers_keep_the_law : {B W : Type 0} (rules : List Rule) (d : Draft B W) (c : Call) (answer : Answer) (d' : Draft B W) → Answers rules d c answer d' → KeepsTheLaw rules (view d) (view d')
+pub answers_keep_the_law : {B W : Type 0} {bs : BookGhosts B} {ws : AgendaGhosts W} (rules : List Rule) (d : Draft B W bs ws) (c : Call) (answer : Answer) (d' : Draft B W bs ws) → Answers rules d c answer d' → KeepsTheLaw rules (view d) (view d')
 answers_keep_the_law rules d c answer d' a =
     ⊎_elim
     (λ (open' : d.accepted ≡ true). step_keeps_the_law rules (view d) c answer (view d') (a.step open'))
@@ -83,30 +86,21 @@ pub fresh : (accepted : Bool) (rules : List Rule) (sets : List OptionSet) → (a
 fresh accepted rules sets ok opening standing strikes taken first second unstruck room undecided places =
     let long : accepted ≡ true → vec_len opening ≡ length (words sets) = λ h. opening.ok.0 ∙ ap length (first h) ∙ sym (length_words sets) in
     let untouched : accepted ≡ true → words (vec_items standing) ≡ left_by (words (vec_items opening)) (vec_items strikes) =
-    λ h. ap words (second h) ∙ sym (ap (λ ss. left_by (words (vec_items opening)) ss) unstruck ∙ ap words (first h)) in (
-      (λ h. omega (arith, (ok h).some, long h)),
-      (
-        (λ h. omega (arith, (ok h).few, long h)),
-        (
-          (λ h. subst Fit (sym (ap words (first h))) (ok h).fit),
-          (
-            (λ h. subst Filled (sym (ap words (second h))) (ok h).filled),
-            (
-              untouched,
-              (
-                (λ _. ap (λ ss. stood (words (vec_items opening)) ss) unstruck),
-                (
-                  (λ _. omega (arith, taken.ok.0, ap length undecided)),
-                  ((λ _. ap (λ ts. rising ts (vec_len strikes)) undecided), ((λ _. room), ((λ _. places), tt))),
-                ),
-              ),
-            ),
-          ),
-        ),
-      ),
-    )
+    λ h. ap words (second h) ∙ sym (ap (λ ss. left_by (words (vec_items opening)) ss) unstruck ∙ ap words (first h)) in
+    record {
+      some = λ h. omega (arith, (ok h).some, long h);
+      few = λ h. omega (arith, (ok h).few, long h);
+      fit = λ h. subst Fit (sym (ap words (first h))) (ok h).fit;
+      filled = λ h. subst Filled (sym (ap words (second h))) (ok h).filled;
+      stands = untouched;
+      struck = λ _. ap (λ ss. stood (words (vec_items opening)) ss) unstruck;
+      decided = λ _. omega (arith, taken.ok.0, ap length undecided);
+      marks = λ _. ap (λ ts. rising ts (vec_len strikes)) undecided;
+      room = λ _. room;
+      places = λ _. places;
+    }
 
-module _ {B W : Type 0} (d : Draft B W) (h : d.accepted ≡ true) where
+module _ {B W : Type 0} {bs : BookGhosts B} {ws : AgendaGhosts W} (d : Draft B W bs ws) (h : d.accepted ≡ true) where
   abbrev opening : List ℕ
   opening = words (vec_items d.opening)
 
@@ -168,7 +162,7 @@ module _ {B W : Type 0} (d : Draft B W) (h : d.accepted ≡ true) where
     filled_chosen = filled_set standing x (2 ^ a) (d.filled h) (pow_pos a)
 
   -- a step that is taken while the draft is open
-  pub answers : (rules : List Rule) (c : Call) (answer : Answer) (d' : Draft B W) → d'.accepted ≡ d.accepted → Step rules (view d) c answer (view d') → Answers rules d c answer d'
+  pub answers : (rules : List Rule) (c : Call) (answer : Answer) (d' : Draft B W bs ws) → d'.accepted ≡ d.accepted → Step rules (view d) c answer (view d') → Answers rules d c answer d'
   answers rules c answer d' e s = record { same = e; step = λ _. s; shut = λ no. absurd (both_ways d.accepted no h) }
 
   module _ (found : List Strike) (stands : stood standing found ≡ true) where
@@ -202,7 +196,18 @@ module _ {B W : Type 0} (d : Draft B W) (h : d.accepted ≡ true) where
     grown t after strikes marks room taken decisions places es ef ek em er et ev ed few ep =
         let rise : rising taken marks ≡ true =
         ap (λ ts. rising ts marks) ev ∙ rising_push (vec_items d.taken) t marks ∙ and_from (rising (vec_items d.taken) t.mark) (leb t.mark marks) (ap (λ m. rising (vec_items d.taken) m) et ∙ d.marks h) (le-leb t.mark marks (omega arith)) in
-        (d.some, (d.few, (d.fit, ((λ _. ef), ((λ _. all_left after strikes es ek), ((λ _. ap (λ ss. stood opening ss) ek ∙ all_stood), ((λ _. omega (arith, d.decided h)), ((λ _. rise), ((λ _. omega (arith, d.room h)), ((λ _. omega (arith, d.places h)), tt))))))))))
+        record {
+          some = d.some;
+          few = d.few;
+          fit = d.fit;
+          filled = λ _. ef;
+          stands = λ _. all_left after strikes es ek;
+          struck = λ _. ap (λ ss. stood opening ss) ek ∙ all_stood;
+          decided = λ _. omega (arith, d.decided h);
+          marks = λ _. rise;
+          room = λ _. omega (arith, d.room h);
+          places = λ _. omega (arith, d.places h);
+        }
 
     -- strikes are made, and no decision is taken
     pub lengthened : (after : List ℕ) (strikes : List Strike) (marks room : ℕ) →
@@ -214,7 +219,18 @@ module _ {B W : Type 0} (d : Draft B W) (h : d.accepted ≡ true) where
         Kept d.accepted (vec_len d.opening) opening after strikes marks room (vec_items d.taken) (vec_len d.taken) (vec_capacity d.taken)
     lengthened after strikes marks room es ef ek em er =
         let rise : rising (vec_items d.taken) marks ≡ true = rising_longer (vec_items d.taken) (vec_len d.strikes) marks (omega arith) (d.marks h) in
-        (d.some, (d.few, (d.fit, ((λ _. ef), ((λ _. all_left after strikes es ek), ((λ _. ap (λ ss. stood opening ss) ek ∙ all_stood), (d.decided, ((λ _. rise), ((λ _. omega (arith, d.room h)), (d.places, tt))))))))))
+        record {
+          some = d.some;
+          few = d.few;
+          fit = d.fit;
+          filled = λ _. ef;
+          stands = λ _. all_left after strikes es ek;
+          struck = λ _. ap (λ ss. stood opening ss) ek ∙ all_stood;
+          decided = d.decided;
+          marks = λ _. rise;
+          room = λ _. omega (arith, d.room h);
+          places = d.places;
+        }
 
   -- the latest decision
   module _ (some : 0 < vec_len d.taken) where
@@ -250,4 +266,15 @@ module _ {B W : Type 0} (d : Draft B W) (h : d.accepted ≡ true) where
         let rise : rising taken marks ≡ true =
         ap (λ ts. rising ts marks) ev ∙ ap (λ m. rising (take (length (vec_items d.taken) - 1) (vec_items d.taken)) m) em ∙ marks_drop.0 in
         let front : stood opening strikes ≡ true = ap (λ ss. stood opening ss) ek ∙ stood_front opening (vec_items d.strikes) mark (d.fit h) (d.struck h) in
-        (d.some, (d.few, (d.fit, ((λ _. full), ((λ _. es ∙ ap (λ ss. left_by opening ss) (sym ek)), ((λ _. front), ((λ _. omega (arith, d.decided h)), ((λ _. rise), ((λ _. omega (arith, d.room h)), ((λ _. omega (arith, d.places h)), tt))))))))))
+        record {
+          some = d.some;
+          few = d.few;
+          fit = d.fit;
+          filled = λ _. full;
+          stands = λ _. es ∙ ap (λ ss. left_by opening ss) (sym ek);
+          struck = λ _. front;
+          decided = λ _. omega (arith, d.decided h);
+          marks = λ _. rise;
+          room = λ _. omega (arith, d.room h);
+          places = λ _. omega (arith, d.places h);
+        }

@@ -46,10 +46,10 @@ replays_from rules handed sets d d' calls answers new made =
       lawful = λ ok.
           let yes = new.accepted.1 ok in
           let r = made.ran yes in
-          let run : Run rules (opened sets) r.0 (view d') = subst (λ first. Run rules first r.0 (view d')) new.state r.1.1 in
+          let run : Run rules (opened sets) r.0 (view d') = subst (λ first. Run rules first r.0 (view d')) (new.state yes) r.1.1 in
           (r.0, (r.1.0, lawful_run rules sets ok r.0 (view d') run));
       shut = λ no.
           let shut : d.accepted ≡ false = ⊎_elim (λ (yes : d.accepted ≡ true). absurd (no (new.accepted.0 yes))) (λ h. h) (cases_Bool d.accepted) in
           let r = made.shut shut in
-          (r.0, r.1 ∙ new.state);
+          (r.0, r.1 ∙ new.shut shut);
     }
