@@ -10,13 +10,11 @@ invariant_of-self c =
     let self = c.args.self.now in
     let after = c.perform-answer.new.self in
     let told = c.perform-answer.ensures in
-    let open-now = self.accepted c.requires in (
-      (λ _. told.answer.same ∙ open-now),
-      (
-        (λ _. reached_next (meant self.draft.book) (meant after.book) (view self.draft) c.in-Some.call c.perform-answer.result (view after) told.meaning (told.answer.step open-now) (self.reached c.requires)),
-        tt,
-      ),
-    )
+    let open-now = self.accepted c.requires in
+    record {
+      accepted = λ _. told.answer.same ∙ open-now;
+      reached = λ _. reached_next (meant self.draft.book) (meant after.book) (view self.draft) c.in-Some.call c.perform-answer.result (view after) told.meaning (told.answer.step open-now) (self.reached c.requires);
+    }
 
 pub returns : goal.returns
 returns c =
