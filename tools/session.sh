@@ -4,14 +4,11 @@
 set -eu
 cd "$(dirname "$0")/.."
 file=${1:-sessions/catalogue.txt}
-log=$(mktemp)
-if ! rt check scanset >"$log" 2>&1; then
-    cat "$log"
-    rm -f "$log"
+work=$(mktemp -d)
+trap 'rm -rf "$work"' EXIT
+if ! (cd crates/scanset && rt run </dev/null) >"$work/log" 2>&1; then
+    cat "$work/log"
     exit 1
 fi
-rm -f "$log"
-answers=$(mktemp)
-target/bin/scanset <"$file" >"$answers"
-paste "$file" "$answers"
-rm -f "$answers"
+crates/scanset/out/scanset <"$file" >"$work/answers"
+paste "$file" "$work/answers"

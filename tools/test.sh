@@ -23,25 +23,25 @@ tell() {
 listed=0
 for folder in crates/*/; do
     name=$(basename "$folder")
-    grep -q "^$name:" crates.txt || { echo "crates/$name is not in crates.txt"; listed=1; }
+    grep -Eq "^$name( |:)" crates.txt || { echo "crates/$name is not in crates.txt"; listed=1; }
 done
 tell "crates are listed" "$listed"
 
-rt fmt --check
-tell "layout" $?
-
 { rt ci 2>&1; echo $? >"$work/status"; } | tee "$work/log"
-status=$(cat "$work/status")
-tell "rt ci" "$status"
+tell "rt ci" "$(cat "$work/status")"
 last=$(tail -n 1 "$work/log")
 case $last in
-*" passed, "*" failed")
+*" passed, "*" failed"*)
     passed=$((passed + ${last%% passed*}))
     rest=${last#* passed, }
     failed=$((failed + ${rest%% failed*}))
     ;;
 *) tell "count of rt ci" 1 ;;
 esac
+
+# An edit that cannot be tried is passed over by 'rt ci', and counts as a failure here.
+! grep '^rt: ok' "$work/log" | grep -Eq ', [1-9][0-9]* bad'
+tell "every must-fail edit was tried" $?
 
 # Uses that the compiler must stop.
 sh tools/misuse.sh >"$work/misuse"
@@ -50,8 +50,12 @@ passed=$((passed + $(grep -c ': ok$' "$work/misuse")))
 failed=$((failed + $(grep -c ': FAILED$' "$work/misuse")))
 
 # Sessions with stored answers.
+(cd crates/scanset && rt run </dev/null) >"$work/build" 2>&1
+built=$?
+[ "$built" -eq 0 ] || cat "$work/build"
+tell "the program is built" "$built"
 for answers in sessions/*.answers; do
-    target/bin/scanset <"${answers%.answers}.txt" | cmp -s - "$answers"
+    crates/scanset/out/scanset <"${answers%.answers}.txt" | cmp -s - "$answers"
     tell "$answers" $?
 done
 

@@ -1,6 +1,6 @@
 -- The ring of an agenda, by the sequence that stands in it.
 use Rattle.std.proofs.Common.{◌≡◌, ℕ, ◌+◌, ◌-◌, ◌%◌, ◌<◌, true, false, not, ◌&&◌, eqb, [], ◌∷◌, ◌++◌, length, get_or, drop, set, Some, sym, ap, ◌∙◌, subst, arith}
-use Rattle.agenda.specs.Waiting.{number_limit, Same, with_one, without, Taken, waits}
+use Rattle.agenda.specs.Waiting.{number_limit, Same, with_one, without, Taken}
 use Rattle.agenda.specs.Sequence.{among, first_of}
 use Rattle.agenda.specs.Numbered.{numbers}
 use Rattle.agenda.specs.Ring.{around, apart}

@@ -1,4 +1,4 @@
-// The engine behind one C function, for comparisons of speed. Not part of the product.
+// The engine behind one function, for comparisons of speed; bench_api_c hands it to C. Not part of the product.
 #![tactic(auto)]
 
 ghost use Rattle.std.specs.Prelude.{◌≡◌, ◌<◌};
@@ -24,8 +24,7 @@ const REFUSED: u32 = 1000;
 
 // Settles sets over table rules, and tells how many options it struck. Wiped out or refused, what the sets then hold
 // is free.
-#[unsafe(no_mangle)]
-pub extern "C" fn bugbiloja_settle<'a>(
+pub fn bugbiloja_settle<'a>(
     heap: Global,
     sets: &mut [OptionSet],
     ends: &'a [Ends],

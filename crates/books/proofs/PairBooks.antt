@@ -1,5 +1,5 @@
 -- The rules of a pair book, as it is asked for them.
-use Rattle.std.proofs.Common.{◌≡◌, ℕ, zero, suc, ◌-◌, ◌*◌, ◌/◌, ◌^◌, ◌<◌, ◌≤◌, Bool, true, false, ◌&&◌, T, ltb, ◌⊎◌, List, get_or, Option, sym, refl, ap, ◌∙◌, subst, ⊎_elim, suc-mul, arith, ltb→lt, lt→ltb}
+use Rattle.std.proofs.Common.{◌≡◌, ℕ, zero, suc, ◌-◌, ◌*◌, ◌/◌, ◌^◌, ◌<◌, ◌≤◌, Bool, true, false, ◌&&◌, T, ltb, List, get_or, Option, sym, refl, ap, ◌∙◌, subst, ⊎_elim, suc-mul, arith, ltb→lt, lt→ltb}
 use Rattle.std.proofs.lemmas.Bool.{cases_Bool, and_right, le-ltb}
 use Rattle.network.specs.Network.{option_limit, field_limit, no_field, has, no_rule}
 use Rattle.network.specs.declared.rules.Side.{Side}

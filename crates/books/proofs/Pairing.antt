@@ -1,5 +1,5 @@
 -- The pair rules: how many there are, the fields of each, and the place of each pair of fields.
-use Rattle.std.proofs.Common.{◌≡◌, ℕ, zero, suc, ◌+◌, ◌-◌, ◌*◌, ◌<◌, ◌≤◌, false, ◌&&◌, ltb, ◌⊎◌, length, sym, refl, ap, ◌∙◌, subst, ⊎_elim, suc-mul, mul-suc, arith}
+use Rattle.std.proofs.Common.{◌≡◌, ℕ, zero, suc, ◌+◌, ◌-◌, ◌*◌, ◌<◌, ◌≤◌, false, ◌&&◌, ltb, length, sym, refl, ap, ◌∙◌, subst, ⊎_elim, suc-mul, mul-suc, arith}
 use Rattle.std.proofs.lemmas.List.{length-append, get_or_append_left, get_or-append_right, get_or_past}
 use Rattle.std.proofs.lemmas.Bool.{lt-ltb, le-ltb, cases_lt, cond-true, cond-false}
 use Rattle.network.specs.Network.{field_limit, no_field, Rule, rule_at, no_rule}

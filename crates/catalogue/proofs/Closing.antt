@@ -1,5 +1,5 @@
 -- A catalogue that nothing keeps from being closed.
-use Rattle.std.proofs.Common.{◌≡◌, ℕ, ◌≤◌, Bool, false, ◌||◌, eqb, length, None, ◌∙◌}
+use Rattle.std.proofs.Common.{◌≡◌, ◌≤◌, false, eqb, length, None, ◌∙◌}
 use Rattle.std.proofs.lemmas.Bool.{cond-false, or_from, ne_eqb, le-ltb}
 use Rattle.catalogue.specs.Content.{Content, any, no_fields, rule_count, closing_refusal}
 

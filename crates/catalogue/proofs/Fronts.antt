@@ -1,5 +1,5 @@
 -- A list in two parts, the front that is entered and the rest that is free.
-use Rattle.std.proofs.Common.{◌≡◌, ℕ, zero, suc, ◌+◌, ◌-◌, ◌<◌, ◌≤◌, min, Bool, true, cond, ltb, ◌⊎◌, List, [], ◌∷◌, ◌++◌, length, take, drop, set, replicate, sym, refl, ap, ◌∙◌, inl, inr, arith}
+use Rattle.std.proofs.Common.{◌≡◌, ℕ, zero, suc, ◌+◌, ◌<◌, ◌≤◌, min, Bool, true, cond, ltb, ◌⊎◌, List, [], ◌∷◌, ◌++◌, length, take, drop, set, replicate, sym, refl, ap, ◌∙◌, inl, inr, arith}
 use Rattle.catalogue.specs.Lent.{Places, added, extended, replaced}
 use Rattle.std.proofs.lemmas.List.{drop-set-lt, drop-drop, take_all, append_assoc, replicate_more, length-drop, set_past}
 use Rattle.std.proofs.lemmas.Bool.{cases_lt, lt-ltb, cond-true}

@@ -1,5 +1,5 @@
 -- A settle of an open draft.
-use Rattle.std.proofs.Common.{◌≡◌, ℕ, ◌+◌, ◌*◌, ◌<◌, ◌≤◌, Bool, true, false, ◌&&◌, List, [], ◌∷◌, ◌++◌, length, get_or, is_err, Ok, Err, vec_items, vec_len, vec_capacity, Result, Vec, sym, refl, ap, ◌∙◌, subst, arith, MatchResult}
+use Rattle.std.proofs.Common.{◌≡◌, ℕ, ◌+◌, ◌<◌, ◌≤◌, true, false, List, [], ◌++◌, length, get_or, is_err, Ok, Err, vec_items, vec_len, vec_capacity, Result, Vec, sym, ap, ◌∙◌, subst, arith, MatchResult}
 use Rattle.std.proofs.lemmas.Bool.{and_from}
 use Rattle.agenda.specs.declared.agenda.Agenda.{Ghosts as AgendaGhosts}
 use Rattle.books.specs.declared.book.Book.{Ghosts as BookGhosts}
@@ -9,7 +9,6 @@ use Rattle.propagation.specs.Opening.{Accepted}
 use Rattle.propagation.specs.Progress.{Progress, Filled}
 use Rattle.propagation.specs.Strikes.{left_by, options}
 use Rattle.propagation.specs.declared.record.Strike.{Strike}
-use Rattle.propagation.specs.Undo.{Fit}
 use Rattle.draft.specs.Sound.{stood, rising}
 use Rattle.draft.specs.declared.draft.Draft.{Draft}
 use Rattle.draft.proofs.Drafts.{Kept, standing_length, opening_length, standing_fit}

@@ -1,5 +1,5 @@
 -- A draft by what it stands for, what each call does to it, and the runs of calls.
-use Rattle.std.specs.Prelude.{◌≡◌, ℕ, zero, suc, ◌-◌, ◌^◌, ◌<◌, Bool, true, cond, not, ◌&&◌, T, List, [], ◌∷◌, ◌++◌, map, length, take, set, Some, None, Option, ◌==◌, nat_lt, slice_index, slice_index_or, slice_set}
+use Rattle.std.specs.Prelude.{◌≡◌, ℕ, zero, suc, ◌-◌, ◌^◌, ◌<◌, Bool, true, cond, not, ◌&&◌, T, List, [], ◌∷◌, ◌++◌, map, length, take, Some, None, Option, ◌==◌, nat_lt, slice_index, slice_index_or, slice_set}
 use Rattle.faults.specs.declared.EngineFault.{EngineFault}
 use Rattle.faults.specs.declared.EngineFault.TheVariants.{NotOpened, OutOfRange, NotStanding, LastOption, TooManyDecisions, NoDecision, WipedOut}
 use Rattle.network.specs.Network.{option_limit, has, Rule, Part, part, rule_at, Largest}

@@ -1,11 +1,11 @@
 -- What a list of calls does to a draft, and the law over it from the opening on.
-use Rattle.std.specs.Prelude.{◌≡◌, ℕ, true, false, List, [], map, reverse, vec_items, Decides}
+use Rattle.std.specs.Prelude.{◌≡◌, ℕ, true, false, List, map, reverse, vec_items, Decides}
 use Rattle.agenda.specs.declared.agenda.Agenda.{Ghosts as AgendaGhosts}
 use Rattle.books.specs.declared.book.Book.{Ghosts as BookGhosts}
 use Rattle.faults.specs.declared.EngineFault.TheVariants.{NotOpened}
 use Rattle.network.specs.Network.{Rule}
 use Rattle.propagation.specs.Opening.{Accepted}
-use Rattle.draft.specs.Draft.{State, Event, Run, opened}
+use Rattle.draft.specs.Draft.{Event, Run, opened}
 use Rattle.draft.specs.Law.{LawfulRun}
 use Rattle.draft.specs.View.{view}
 use Rattle.draft.specs.declared.draft.Draft.{Draft}

@@ -1,8 +1,8 @@
 -- Digits of bytes: how many there are, and that they tell the bytes.
-use Rattle.std.proofs.Common.{◌≡◌, ℕ, zero, suc, ◌+◌, ◌-◌, ◌*◌, ◌/◌, ◌%◌, ◌<◌, ◌≤◌, Bool, true, false, cond, ◌&&◌, ◌||◌, eqb, ltb, leb, ◌⊎◌, List, [], ◌∷◌, ◌++◌, length, get_or, take, drop, set, Some, None, Option, sym, refl, ap, ◌∙◌, subst, inl, inr, arith}
-use Rattle.std.proofs.lemmas.Bool.{cases_lt, cases_Bool, cond-true, cond-false, lt-ltb, le-ltb, le-leb, lt-leb, and_from, or_left, or_right}
+use Rattle.std.proofs.Common.{◌≡◌, ℕ, zero, suc, ◌+◌, ◌*◌, ◌/◌, ◌%◌, ◌<◌, ◌≤◌, true, false, cond, List, [], ◌∷◌, ◌++◌, length, get_or, take, drop, set, Some, None, sym, refl, ap, ◌∙◌, inl, inr, arith}
+use Rattle.std.proofs.lemmas.Bool.{cases_lt, cases_Bool, cond-true, cond-false, lt-ltb, le-ltb, le-leb, and_from, or_left, or_right}
 use Rattle.std.proofs.lemmas.List.{append_assoc, set_at, drop_more, take_more, take_more_set, length_push}
-use Rattle.frames.specs.Lines.{digit, digits, line_of, is_digit, bad_digit}
+use Rattle.frames.specs.Lines.{digit, digits, is_digit, bad_digit}
 
 pub digit_low : (n : ℕ) → n < 10 → digit n ≡ 48 + n
 digit_low n h = cond-true _ _ _ (lt-ltb n 10 h)

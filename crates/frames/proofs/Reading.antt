@@ -1,9 +1,9 @@
 -- What an accepted line is, and that the line of a frame reads back as that frame.
-use Rattle.std.proofs.Common.{◌≡◌, ℕ, zero, suc, ◌+◌, ◌-◌, ◌*◌, ◌/◌, ◌%◌, ◌<◌, ◌≤◌, Bool, true, false, cond, eqb, ltb, ◌⊎◌, List, [], ◌∷◌, ◌++◌, length, get_or, take, drop, Some, None, Ok, Err, Option, Result, sym, refl, ap, ◌∙◌, subst, inl, inr, arith}
-use Rattle.std.proofs.lemmas.Bool.{cases_Bool, cond-true, cond-false, eqb-true, eqb-false, eq-eqb, ne_eqb, ltb-false, le-ltb}
-use Rattle.std.proofs.lemmas.List.{length_push, length-append, get_or_push, take_more, take_all, take_at, append_cancel_right, length-take-le}
+use Rattle.std.proofs.Common.{◌≡◌, ℕ, zero, suc, ◌+◌, ◌-◌, ◌*◌, ◌/◌, ◌%◌, ◌<◌, ◌≤◌, Bool, true, false, cond, eqb, ltb, List, [], ◌∷◌, ◌++◌, length, get_or, take, Some, None, Ok, Err, Option, Result, sym, refl, ap, ◌∙◌, arith}
+use Rattle.std.proofs.lemmas.Bool.{cond-true, cond-false, eqb-true, eqb-false, eq-eqb, ne_eqb, ltb-false, le-ltb}
+use Rattle.std.proofs.lemmas.List.{length_push, get_or_push, take_more, take_all, take_at, append_cancel_right, length-take-le}
 use Rattle.faults.specs.declared.LineFault.{LineFault}
-use Rattle.frames.specs.Lines.{digit, digits, line_of, IsFrame, is_digit, ended, before_end, bad_digit, after_digits, reading}
+use Rattle.frames.specs.Lines.{digit, digits, line_of, IsFrame, ended, before_end, bad_digit, after_digits, reading}
 use Rattle.frames.proofs.Digits.{digit_tells, digit_is_digit, length_digits}
 
 -- the line of a frame ends where its digits end

@@ -1,5 +1,5 @@
 -- What masks of one option do to a set word, over any width k.
-use Rattle.std.proofs.Common.{◌≡◌, ℕ, zero, suc, ◌+◌, ◌-◌, ◌*◌, ◌/◌, ◌%◌, ◌^◌, ◌<◌, ◌≤◌, min, true, false, cond, not, ◌&&◌, ◌||◌, T, eqb, ltb, ◌⊎◌, sym, refl, ap, ◌∙◌, subst, ⊎_elim, pow-suc, arith}
+use Rattle.std.proofs.Common.{◌≡◌, ℕ, zero, suc, ◌+◌, ◌-◌, ◌*◌, ◌/◌, ◌%◌, ◌^◌, ◌<◌, ◌≤◌, min, true, false, cond, not, ◌&&◌, ◌||◌, T, eqb, ltb, sym, refl, ap, ◌∙◌, subst, ⊎_elim, pow-suc, arith}
 use lib.Bits.{bit_and, bit_or, and_high, or_add_and, and_step, and_zero_r}
 use lib.Count.{ones, ones-le}
 use Rattle.std.proofs.lemmas.Nat.{pow-add, pow_below, pow_pos, mod_below}

@@ -1,6 +1,6 @@
 // Sets of options of one field. Only this file knows how many options a word holds.
 
-ghost use Rattle.std.specs.Prelude.{◌≡◌, ◌==◌, bit_and, bit_or, count_ones};
+ghost use Rattle.std.specs.Prelude.{◌≡◌, bit_and, bit_or, count_ones, nat_eq};
 ghost use Rattle.network.specs.Network.{has};
 ghost use Rattle.network.specs.Sets.{alone, set_without, set_with, set_below, set_from, lowest_of, Lowest, rest_after};
 
@@ -44,7 +44,7 @@ impl OptionSet {
     }
 
     pub fn is_empty(self) -> bool
-        ensures { result ≡ (self.word == 0) }
+        ensures { result ≡ nat_eq self.word 0 }
     {
         self.word == 0
     }

@@ -1,5 +1,5 @@
 -- Which sets can be opened over which rules, and what it means that the largest part has an empty field.
-use Rattle.std.specs.Prelude.{◌≡◌, ℕ, ◌^◌, ◌<◌, ◌≤◌, T, ◌≢◌, List, length, slice_index}
+use Rattle.std.specs.Prelude.{ℕ, ◌^◌, ◌<◌, ◌≤◌, T, ◌≢◌, List, length, slice_index}
 use Rattle.network.specs.Network.{Rule, Part, rule_at, InLargest, Largest, option_limit, field_limit, rule_limit}
 use Rattle.network.specs.declared.rules.Side.{Side}
 use Rattle.propagation.specs.Strikes.{UnsupportedAt}

@@ -1,5 +1,5 @@
 -- Putting struck options back.
-use Rattle.std.specs.Prelude.{ℕ, ◌^◌, ◌<◌, List, [], ◌∷◌, set, slice_index, slice_set}
+use Rattle.std.specs.Prelude.{ℕ, ◌^◌, ◌<◌, List, [], ◌∷◌, slice_index, slice_set}
 use Rattle.network.specs.Network.{option_limit}
 use Rattle.network.specs.Sets.{set_with}
 use Rattle.propagation.specs.declared.record.Strike.{Strike}

@@ -1,5 +1,5 @@
 -- An answer that was written is a line that was exchanged.
-use Rattle.std.proofs.Common.{◌≡◌, ℕ, ◌+◌, ◌*◌, ◌<◌, ◌≤◌, ◌⊎◌, List, ◌++◌, length, take, drop, Some, Ok, Err, Result, sym, refl, ap, ◌∙◌, subst, inl, inr, arith, lit<, lit≤, MatchResult}
+use Rattle.std.proofs.Common.{◌≡◌, ℕ, ◌+◌, ◌*◌, ◌<◌, ◌≤◌, List, ◌++◌, length, take, drop, Some, Ok, Err, Result, sym, refl, ap, ◌∙◌, subst, inr, arith, lit<, lit≤, MatchResult}
 use Rattle.std.proofs.lemmas.Bool.{cond-false, or_from, ne_eqb, le-ltb}
 use Rattle.std.proofs.lemmas.List.{length_push}
 use Rattle.faults.specs.Numbers.{program_number}
@@ -11,7 +11,7 @@ use Rattle.frames.specs.declared.answers.Answer.TheVariants.{Done, Shown, Settle
 use Rattle.frames.proofs.Digits.{length_digits}
 use Rattle.frames.proofs.Clipping.{same_start}
 use Rattle.session.specs.declared.session.Refusal.{Refusal}
-use Rattle.session.specs.Steps.{State, told_as, Stepped, Replied, Written, Exchanged}
+use Rattle.session.specs.Steps.{State, told_as, Stepped, Replied, Exchanged}
 
 few : (a : Answer) → (0 < length (answer_bytes a)) × (length (answer_bytes a) ≤ 16)
 few Done = (lit< tt, lit≤ tt)

@@ -1,5 +1,5 @@
 -- The end of a tightening.
-use Rattle.std.proofs.Common.{◌≡◌, ℕ, ◌*◌, ◌<◌, ◌≤◌, Bool, true, false, T, List, length, get_or, drop, IfOk, Some, None, Ok, Err, Option, Result, sym, refl, ap, ◌∙◌, subst, arith, MatchResult}
+use Rattle.std.proofs.Common.{◌≡◌, ℕ, ◌*◌, ◌<◌, T, List, length, get_or, drop, IfOk, Some, None, Ok, Err, Option, Result, sym, refl, ap, ◌∙◌, subst, arith, MatchResult}
 use Rattle.faults.specs.declared.EngineFault.{EngineFault}
 use Rattle.network.specs.Network.{Rule, part}
 use Rattle.network.proofs.Bits.{has_below}
@@ -12,7 +12,6 @@ use Rattle.tightening.specs.Start.{Standing, StayBeyond}
 use Rattle.tightening.specs.Done.{Tightened, NotTightened}
 use Rattle.tightening.specs.Tightening.{Tightest, TightWipedOut}
 use Rattle.tightening.specs.Probes.{probes_of}
-use Rattle.tightening.specs.Rows.{TwoWay}
 use Rattle.tightening.specs.Underway.{Between}
 use Rattle.tightening.proofs.Probing.{underway_start, tightest_full}
 use Rattle.tightening.proofs.Turning.{full_of, beyond_then}

@@ -1,18 +1,15 @@
 -- Pair words: what a write into one does to the pairs, masks of set words, and the sets that a probe starts from.
-use Rattle.std.proofs.Common.{◌≡◌, ℕ, zero, suc, ◌+◌, ◌-◌, ◌*◌, ◌/◌, ◌%◌, ◌^◌, ◌<◌, ◌≤◌, min, Bool, true, false, cond, not, ◌&&◌, T, eqb, ltb, ◌≢◌, ◌⊎◌, List, length, get_or, set, sym, refl, ap, ◌∙◌, subst, inl, inr, ⊎_elim, pow-suc, arith, eqb→eq, ltb→lt, lt→ltb}
-use lib.Dec.{eqb_refl, eqb-zero-suc, eqb-suc-zero, eqb-suc-suc}
-use lib.Bits.{bit_and, and_step}
-use lib.Count.{ones, ones_step}
-use Rattle.std.proofs.lemmas.List.{get_or-set_same, get_or-set_other, length-set}
-use Rattle.std.proofs.lemmas.Nat.{pow_pos, pow_below}
-use Rattle.std.proofs.lemmas.Bool.{cases_lt, cases_eq, cases_Bool, eq-eqb, ne_eqb, lt-ltb, le-ltb, both_ways}
-use Rattle.network.specs.Network.{has, Rule, Part, part, Within, rule_at, InLargest, Largest}
-use Rattle.propagation.specs.Strikes.{without}
-use Rattle.propagation.specs.Opening.{Accepted, IsWipedOut, Emptied}
-use Rattle.books.specs.Pairs.{Pairs, word_at, pairs_of, pair_rules, triangle, pair_at}
+use Rattle.std.proofs.Common.{◌≡◌, ℕ, ◌-◌, ◌*◌, ◌/◌, ◌%◌, ◌^◌, ◌<◌, ◌≤◌, Bool, true, false, cond, not, ◌&&◌, T, eqb, ltb, List, length, get_or, set, sym, refl, ap, ◌∙◌, subst, ⊎_elim, arith, eqb→eq, ltb→lt, lt→ltb}
+use lib.Dec.{eqb_refl}
+use lib.Bits.{bit_and}
+use Rattle.std.proofs.lemmas.List.{get_or-set_same, get_or-set_other}
+use Rattle.std.proofs.lemmas.Bool.{cases_lt, cases_eq, cases_Bool, eq-eqb, ne_eqb, lt-ltb}
+use Rattle.network.specs.Network.{has, Rule, Part, part, InLargest, Largest}
+use Rattle.propagation.specs.Opening.{Accepted, IsWipedOut}
+use Rattle.books.specs.Pairs.{Pairs, word_at, pairs_of, pair_rules, triangle}
 use Rattle.tightening.specs.Tightening.{narrowed}
-use Rattle.network.proofs.Truth.{yes_T, no_T, T_yes, T_no, and_T, T_left, T_right, and_true, and_false}
-use Rattle.network.proofs.Bits.{has_step, has_le, has_less, has_pow, has_and, has_ones, has_none, none_of_zero, same_bits}
+use Rattle.network.proofs.Truth.{yes_T, T_yes, T_no, and_T, T_left, T_right, and_true, and_false}
+use Rattle.network.proofs.Bits.{has_less, has_pow, has_and, has_ones, has_none, same_bits}
 use Rattle.tightening.proofs.Sets.{field_within, part_same, part_other}
 use Rattle.books.proofs.Pairing.{rules_length, triangle_few, left_at, right_at, ends_order, ends_below}
 

@@ -1,14 +1,14 @@
 -- The run of a tightening: what holds between two probes, and what each probe does to it.
-use Rattle.std.proofs.Common.{◌≡◌, ℕ, zero, suc, ◌+◌, ◌-◌, ◌*◌, ◌^◌, ◌<◌, ◌≤◌, Bool, true, false, cond, not, ◌&&◌, T, eqb, ltb, ◌≢◌, ◌⊎◌, List, length, get_or, set, sym, refl, ap, ◌∙◌, subst, inl, inr, ⊎_elim, arith, eqb→eq}
+use Rattle.std.proofs.Common.{◌≡◌, ℕ, ◌+◌, ◌<◌, Bool, true, false, cond, not, ◌&&◌, T, eqb, ◌≢◌, List, length, sym, refl, subst, ⊎_elim, arith, eqb→eq}
 use Rattle.std.proofs.lemmas.Bool.{cases_eq, eq-eqb}
-use Rattle.network.specs.Network.{Rule, rule_at, Part, part, Within, ArcConsistent, InLargest, Largest}
+use Rattle.network.specs.Network.{Rule, rule_at, Part, part, InLargest, Largest}
 use Rattle.propagation.specs.Opening.{IsWipedOut}
 use Rattle.books.specs.Pairs.{Pairs, pair_rules}
-use Rattle.tightening.specs.Underway.{Covers, Consistent, Probed, Underway}
-use Rattle.tightening.specs.Tightening.{Stands, less_pairs, narrowed, StronglyDual, TightOption, TightPair, Tightest, TightWipedOut, RowsAreExact}
+use Rattle.tightening.specs.Underway.{Probed, Underway}
+use Rattle.tightening.specs.Tightening.{Stands, less_pairs, narrowed, Tightest, TightWipedOut, RowsAreExact}
 use Rattle.network.proofs.Truth.{T_yes, and_T, T_left, T_right}
 use Rattle.tightening.proofs.Sets.{field_within}
-use Rattle.tightening.proofs.Theory.{Partner, Supported, arc_supported, in_largest, narrowed_to, covers_start, covers_struck, covers_pruned, covers_empty, probed_after, end_tightest, tightest_rows}
+use Rattle.tightening.proofs.Theory.{arc_supported, in_largest, narrowed_to, covers_start, covers_struck, covers_pruned, covers_empty, probed_after, end_tightest, tightest_rows}
 
 -- p' and q' are p and q less option a of field x and its pairs
 pub record LessOption (p p' : Part) (q q' : Pairs) (x a : ℕ) : Type 0 where

@@ -1,13 +1,13 @@
 -- What a list of set words keeps once an option is struck, or a word is put in.
-use Rattle.std.proofs.Common.{◌≡◌, ℕ, zero, suc, ◌+◌, ◌-◌, ◌^◌, ◌<◌, ◌≤◌, Bool, true, false, cond, not, ◌&&◌, T, eqb, ◌⊎◌, List, [], ◌∷◌, length, get_or, set, sym, refl, ap, ◌∙◌, subst, inl, inr, ⊎_elim, arith}
+use Rattle.std.proofs.Common.{◌≡◌, ℕ, zero, suc, ◌+◌, ◌-◌, ◌^◌, ◌<◌, not, ◌&&◌, T, eqb, List, [], ◌∷◌, length, get_or, set, sym, ap, ◌∙◌, subst, ⊎_elim, arith}
 use lib.Dec.{eqb_refl}
 use lib.Count.{ones}
-use Rattle.std.proofs.lemmas.List.{get_or-set_same, get_or-set_other, length-set, get_or_past, set_past}
-use Rattle.std.proofs.lemmas.Bool.{ne_eqb, eq-eqb, cases_eq, cases_lt, cond-true, cond-false}
+use Rattle.std.proofs.lemmas.List.{get_or-set_same, get_or-set_other, get_or_past, set_past}
+use Rattle.std.proofs.lemmas.Bool.{ne_eqb, cases_eq, cases_lt}
 use Rattle.network.specs.Network.{has, part}
 use Rattle.propagation.specs.Strikes.{without, options}
-use Rattle.network.proofs.Truth.{yes_T, T_yes, T_no, and_true, and_false}
-use Rattle.network.proofs.Bits.{none_of_zero, has_less, has_le, ones_less}
+use Rattle.network.proofs.Truth.{yes_T, T_no, and_true, and_false}
+use Rattle.network.proofs.Bits.{none_of_zero, has_less, ones_less}
 
 pub field_within : (sets : List ℕ) (x a : ℕ) → T (part sets x a) → x < length sets
 field_within sets x a t =

@@ -1,12 +1,12 @@
 -- Taking pairs away, word by word.
-use Rattle.std.proofs.Common.{◌≡◌, ℕ, zero, suc, ◌+◌, ◌-◌, ◌*◌, ◌^◌, ◌<◌, ◌≤◌, Bool, true, false, cond, not, ◌&&◌, ◌||◌, T, eqb, ltb, ◌≢◌, ◌⊎◌, List, length, get_or, drop, set, sym, refl, ap, ◌∙◌, subst, inl, inr, ⊎_elim, pow-suc, arith, eqb→eq, ltb→lt, lt→ltb}
+use Rattle.std.proofs.Common.{◌≡◌, ℕ, zero, suc, ◌+◌, ◌-◌, ◌*◌, ◌^◌, ◌<◌, ◌≤◌, Bool, true, false, cond, not, ◌&&◌, ◌||◌, T, eqb, ltb, ◌≢◌, ◌⊎◌, List, length, get_or, set, sym, refl, ap, ◌∙◌, subst, inl, inr, ⊎_elim, pow-suc, arith, eqb→eq, ltb→lt, lt→ltb}
 use lib.Bits.{bit_and}
 use lib.Count.{ones}
 use Rattle.std.proofs.lemmas.List.{get_or-set_other, length-set, drop-set-lt}
-use Rattle.std.proofs.lemmas.Bool.{cases_Bool, cases_eq, eq-eqb, ne_eqb}
-use Rattle.network.specs.Network.{has, Part, part}
+use Rattle.std.proofs.lemmas.Bool.{cases_Bool, cases_eq, eq-eqb}
+use Rattle.network.specs.Network.{has, Part}
 use Rattle.network.specs.Sets.{set_without}
-use Rattle.network.proofs.Truth.{yes_T, T_yes, T_no, and_T, T_left, T_right, and_true, same_test}
+use Rattle.network.proofs.Truth.{T_yes, and_T, T_left, T_right, same_test}
 use Rattle.network.proofs.Bits.{has_less, has_and, ones_and, none_of_zero}
 use Rattle.network.proofs.Masks.{has_without, ones_without}
 use Rattle.books.specs.Pairs.{Pairs, word_at, pairs_of}

@@ -1,15 +1,14 @@
 -- What a tightening rests on: parts under the pair rules, what a probe may take away, and when nothing is left to do.
-use Rattle.std.proofs.Common.{◌≡◌, ℕ, zero, suc, ◌+◌, ◌-◌, ◌*◌, ◌^◌, ◌<◌, ◌≤◌, Bool, true, false, cond, not, ◌&&◌, T, eqb, ltb, ◌≢◌, ◌⊎◌, List, [], ◌∷◌, ◌++◌, length, get_or, set, sym, refl, ap, ◌∙◌, subst, inl, inr, ⊎_elim, arith, eqb→eq, ltb→lt, lt→ltb}
+use Rattle.std.proofs.Common.{◌≡◌, ℕ, ◌<◌, ◌≤◌, true, cond, T, eqb, ◌≢◌, List, length, sym, refl, ap, ◌∙◌, subst, ⊎_elim, arith, eqb→eq}
 use lib.Dec.{eqb_refl}
 use Rattle.std.proofs.lemmas.Bool.{cases_lt, cases_eq, cases_order, eq-eqb, ne_eqb}
-use Rattle.network.specs.Network.{has, Rule, Part, part, Within, rule_at, PartnerLeft, PartnerRight, ArcConsistent, InLargest, Largest}
-use Rattle.propagation.specs.Strikes.{without}
-use Rattle.propagation.specs.Opening.{IsWipedOut, Emptied}
-use Rattle.books.specs.Pairs.{Pairs, word_at, pairs_of, pair_rule, pair_rules, triangle, pair_at, place}
+use Rattle.network.specs.Network.{Rule, Part, part, Within, rule_at, PartnerLeft, PartnerRight, ArcConsistent, InLargest, Largest}
+use Rattle.propagation.specs.Opening.{IsWipedOut}
+use Rattle.books.specs.Pairs.{Pairs, pair_rule, pair_rules, triangle, pair_at, place}
 use Rattle.tightening.specs.Underway.{Covers, Consistent, Probed}
 use Rattle.tightening.specs.Tightening.{Stands, narrowed, row, InFullLargest, StronglyDual, TightOption, TightPair, Tightest}
-use Rattle.network.proofs.Truth.{yes_T, no_T, T_yes, T_no, and_T, T_left, T_right}
-use Rattle.tightening.proofs.Sets.{field_within, part_without}
+use Rattle.network.proofs.Truth.{yes_T, T_yes, and_T, T_left, T_right}
+use Rattle.tightening.proofs.Sets.{field_within}
 use Rattle.books.proofs.Pairing.{rule_of, rule_is, rules_length, ends_order, ends_below, place_below, place_ends}
 
 -- a partner of option a of field x in field y: a kept option, paired with a in both orders

@@ -1,14 +1,13 @@
 -- Two worked examples of tightening, from the definitions.
-use Rattle.std.proofs.Common.{◌≡◌, ℕ, zero, suc, ◌+◌, ◌-◌, ◌*◌, ◌/◌, ◌%◌, ◌^◌, ◌<◌, ◌≤◌, Bool, true, false, cond, not, ◌&&◌, T, eqb, ltb, ◌≢◌, ◌⊎◌, List, [], ◌∷◌, length, get_or, sym, refl, ap, ◌∙◌, subst, inl, inr, ⊎_elim, arith, eqb→eq, ltb→lt, lt→ltb}
-use lib.Dec.{eqb_refl}
-use Rattle.std.proofs.lemmas.Bool.{cases_lt, cases_eq, cases_order, eq-eqb, ne_eqb, eqb-false}
-use Rattle.network.specs.Network.{has, Rule, Part, part, Within, rule_at, ArcConsistent, InLargest}
-use Rattle.books.specs.Pairs.{Pairs, pair_rules}
-use Rattle.tightening.specs.Tightening.{Stands, narrowed, StronglyDual, TightOption, TightPair, Tightest}
-use Rattle.network.proofs.Truth.{yes_T, no_T, T_yes, T_no, and_T, T_left, T_right}
-use Rattle.network.proofs.Bits.{has_le, has_step, none_of_zero}
+use Rattle.std.proofs.Common.{◌≡◌, ℕ, zero, suc, ◌<◌, not, ◌&&◌, T, eqb, ltb, ◌≢◌, List, [], ◌∷◌, sym, refl, ap, ◌∙◌, ⊎_elim, arith, eqb→eq, ltb→lt, lt→ltb}
+use Rattle.std.proofs.lemmas.Bool.{cases_order, eq-eqb, ne_eqb}
+use Rattle.network.specs.Network.{has, Rule, Part, part, Within, rule_at}
+use Rattle.books.specs.Pairs.{Pairs}
+use Rattle.tightening.specs.Tightening.{narrowed, StronglyDual, TightOption, TightPair, Tightest}
+use Rattle.network.proofs.Truth.{T_yes, T_no, and_T, T_left, T_right}
+use Rattle.network.proofs.Bits.{has_step, none_of_zero}
 use Rattle.tightening.proofs.Sets.{field_within}
-use Rattle.tightening.proofs.Theory.{Partner, Supported, arc_supported, in_largest, narrowed_within, narrowed_to, narrowed_in, largest_within, end_dual, tight_mirror}
+use Rattle.tightening.proofs.Theory.{Supported, arc_supported, in_largest, narrowed_to, narrowed_in, end_dual, tight_mirror}
 use Rattle.tightening.specs.Underway.{Consistent, Probed}
 
 abbrev three : List ℕ

@@ -1,11 +1,11 @@
 -- Trying out a probe's sets: what it starts from, and what its outcome tells of the probe.
-use Rattle.std.proofs.Common.{◌≡◌, ℕ, zero, suc, ◌+◌, ◌*◌, ◌^◌, ◌<◌, ◌≤◌, min, Bool, true, false, cond, ◌||◌, T, eqb, ◌≢◌, List, [], ◌∷◌, ◌++◌, length, get_or, is_err, Ok, Err, Result, sym, refl, ap, ◌∙◌, subst, inl, inr, ⊎_elim, arith, eqb→eq, MatchResult}
+use Rattle.std.proofs.Common.{◌≡◌, ℕ, zero, suc, ◌*◌, ◌^◌, ◌<◌, ◌≤◌, Bool, true, false, cond, ◌||◌, T, eqb, ◌≢◌, List, [], ◌∷◌, length, get_or, is_err, Ok, Err, Result, sym, refl, ap, ◌∙◌, subst, ⊎_elim, arith, eqb→eq, MatchResult}
 use native.Mathlib.Nat.{min_comm, min-eq_left}
 use Rattle.std.proofs.lemmas.Bool.{cases_eq, cases_lt, eq-eqb, ne_eqb}
 use Rattle.network.specs.Network.{has, Rule, Part, part, words, Within, InLargest, Largest}
 use Rattle.network.specs.declared.options.OptionSet.{OptionSet}
 use Rattle.network.proofs.Words.{length_words}
-use Rattle.network.proofs.Truth.{T_yes, T_no, and_T, same_test, no_T}
+use Rattle.network.proofs.Truth.{T_yes, T_no, no_T}
 use lib.Count.{ones-le}
 use Rattle.network.proofs.Bits.{none_of_zero, has_pow}
 use Rattle.books.specs.Pairs.{Pairs, pairs_of, pair_rules, pair_book}

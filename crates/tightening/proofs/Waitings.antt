@@ -1,13 +1,13 @@
 -- Probes that are put, one by one.
-use Rattle.std.proofs.Common.{◌≡◌, ℕ, ◌+◌, ◌-◌, ◌*◌, ◌^◌, ◌<◌, ◌≤◌, Bool, true, false, cond, not, ◌&&◌, ◌||◌, T, eqb, ltb, ◌⊎◌, sym, refl, ap, ◌∙◌, subst, inl, inr, ⊎_elim, arith, eqb→eq, ltb→lt, lt→ltb}
+use Rattle.std.proofs.Common.{◌≡◌, ℕ, ◌+◌, ◌-◌, ◌*◌, ◌^◌, ◌<◌, Bool, true, false, cond, not, ◌&&◌, ◌||◌, T, eqb, ltb, ◌⊎◌, sym, refl, ap, ◌∙◌, subst, inl, inr, ⊎_elim, arith, eqb→eq, ltb→lt, lt→ltb}
 use Rattle.std.proofs.lemmas.Bool.{cases_eq, eq-eqb, ne_eqb, lt-ltb, eqb-true}
 use Rattle.network.specs.Network.{has}
 use Rattle.network.proofs.Truth.{yes_T, T_yes, T_no, and_T, T_left, T_right}
 use Rattle.network.proofs.Bits.{has_less}
-use Rattle.agenda.specs.Waiting.{Waiting, Same, without, Nothing, number_limit}
+use Rattle.agenda.specs.Waiting.{Waiting, Same, without, Nothing}
 use Rattle.agenda.specs.Jobs.{probe_number, probe_fits, put_job_lem}
 use Rattle.agenda.specs.declared.job.Probe.{Probe}
-use Rattle.tightening.specs.Probes.{probes_of, PutOn, AllWait}
+use Rattle.tightening.specs.Probes.{probes_of, PutOn}
 
 pub put_none : (w : Waiting) → PutOn w w
 put_none w = record { still = λ k h. h; only = λ o. o }

@@ -1,6 +1,6 @@
 -- Rows of pair words: what an option of one field is paired with in each field, and what taking pairs away leaves.
 use Rattle.std.specs.Prelude.{◌≡◌, ℕ, ◌*◌, ◌^◌, ◌<◌, ◌≤◌, Bool, true, cond, ◌&&◌, T, ◌≢◌, List, length, drop, ◌==◌, nat_lt, slice_index}
-use Rattle.network.specs.Network.{option_limit, field_limit, has, Part, part}
+use Rattle.network.specs.Network.{option_limit, field_limit, Part}
 use Rattle.books.specs.Pairs.{Pairs, word_at, pairs_of}
 use Rattle.propagation.specs.Strikes.{options}
 use Rattle.tightening.specs.declared.rows.Row.{Row}

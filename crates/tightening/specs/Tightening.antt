@@ -1,7 +1,7 @@
 -- Pairs of options, and the largest strongly dual-consistent part.
-use Rattle.std.specs.Prelude.{◌≡◌, ℕ, zero, suc, ◌+◌, ◌-◌, ◌*◌, ◌<◌, ◌≤◌, Bool, true, false, cond, ◌&&◌, T, ◌≢◌, List, [], ◌∷◌, ◌++◌, length, ◌==◌}
-use Rattle.books.specs.Pairs.{Pairs, word_at, pairs_of, pair_rules}
-use Rattle.network.specs.Network.{has, Rule, Part, part, Within, rule_at, ArcConsistent, InLargest, Largest}
+use Rattle.std.specs.Prelude.{◌≡◌, ℕ, ◌<◌, true, cond, ◌&&◌, T, ◌≢◌, List, length, ◌==◌}
+use Rattle.books.specs.Pairs.{Pairs, pair_rules}
+use Rattle.network.specs.Network.{Rule, Part, part, Within, rule_at, ArcConsistent, InLargest, Largest}
 
 -- both options are there, and every rule between the two fields, in either order, allows the pair
 pub record Stands (rules : List Rule) (sets : List ℕ) (x a y b : ℕ) : Type 0 where

@@ -1,5 +1,5 @@
-use Rattle.std.proofs.Common.{ℕ, zero, suc, ◌*◌, ◌^◌, ◌<◌, ◌≤◌, List, [], ◌∷◌, length, get_or, arith, rules}
-use lib.Count.{ones, ones-le}
+use Rattle.std.proofs.Common.{ℕ, suc, ◌*◌, ◌^◌, ◌<◌, ◌≤◌, List, [], ◌∷◌, length, get_or, arith, rules}
+use lib.Count.{ones-le}
 use Rattle.network.specs.Network.{words}
 use Rattle.propagation.specs.Strikes.{options}
 use Rattle.bench_api.proofs.bugbiloja_settle.Goals as goal

@@ -1,5 +1,5 @@
-use Rattle.std.proofs.Common.{◌≡◌, ℕ, ◌-◌, ◌≤◌, List, length, take, Ok, Err, sym, ap, ◌∙◌, arith, lit≤}
-use Rattle.frames.specs.Lines.{line_of, IsFrame, reading}
+use Rattle.std.proofs.Common.{◌≡◌, ℕ, ◌-◌, List, length, take, sym, ap, ◌∙◌, arith, lit≤}
+use Rattle.frames.specs.Lines.{line_of, IsFrame}
 use Rattle.frames.specs.Frames.{decoding, frame_bytes}
 use Rattle.frames.proofs.Framing.{decodes, encodes, is_frame, made_of}
 use Rattle.frames.proofs.Reading.{no_fault, told}

@@ -1,8 +1,7 @@
-use Rattle.std.proofs.Common.{◌≡◌, ◌<◌, ◌≤◌, [], length, sym, refl, ap, ◌∙◌, subst, arith}
+use Rattle.std.proofs.Common.{◌≡◌, ◌<◌, [], length, sym, refl, ◌∙◌, subst, arith}
 use Rattle.std.proofs.lemmas.Bool.{eqb-true, eqb-false}
 use Rattle.network.specs.Network.{part, words}
 use Rattle.network.proofs.Words.{length_words}
-use Rattle.books.specs.Pairs.{pairs_of, pair_rules}
 use Rattle.propagation.specs.Opening.{IsWipedOut}
 use Rattle.propagation.specs.Progress.{SettledOn}
 use Rattle.tightening.proofs.Trying.{wiped_empty, few_options, struck_one, struck_none, book_is, probe_accepted, settled_well, settled_badly}

@@ -1,6 +1,6 @@
-use Rattle.std.proofs.Common.{◌≡◌, ℕ, ◌+◌, ◌<◌, length, get_or, sym, refl, ap, ◌∙◌, subst, inl, arith, rules}
+use Rattle.std.proofs.Common.{◌≡◌, ℕ, ◌+◌, ◌<◌, length, get_or, sym, ap, ◌∙◌, subst, inl, arith, rules}
 use Rattle.network.specs.Network.{has, part, words}
-use Rattle.network.proofs.Words.{length_words, word_of}
+use Rattle.network.proofs.Words.{word_of}
 use Rattle.tightening.specs.Rows.{pairs_in, less_below, Leaves}
 use Rattle.tightening.proofs.TakingAway.{LostBelow, row_start, row_own, row_more, row_end, still_in, below_two_way}
 use Rattle.tightening.proofs.rows.keep_row.Goals.{then-other-row, else-other-row}

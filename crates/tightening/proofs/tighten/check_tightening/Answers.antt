@@ -1,11 +1,10 @@
-use Rattle.std.proofs.Common.{◌≡◌, ◌*◌, ◌<◌, ◌≤◌, true, false, cond, ◌||◌, eqb, ltb, List, length, Some, Ok, Err, sym, refl, ap, ◌∙◌, subst, arith}
+use Rattle.std.proofs.Common.{◌≡◌, ◌*◌, ◌≤◌, true, false, ◌||◌, eqb, ltb, List, length, Some, sym, ap, ◌∙◌, arith}
 use Rattle.std.proofs.lemmas.Bool.{or_left, or_right, or_from, eq-eqb, ne_eqb, lt-ltb, le-ltb, cond-true, cond-false}
 use Rattle.faults.specs.declared.EngineFault.TheVariants.{FieldCount, ShortBuffer}
 use Rattle.network.specs.Network.{words, field_limit}
 use Rattle.network.specs.declared.options.OptionSet.{OptionSet}
 use Rattle.network.proofs.Words.{length_words}
-use Rattle.propagation.specs.Refusals.{answer, opening_refusal}
-use Rattle.tightening.specs.Done.{tighten_refusal}
+use Rattle.propagation.specs.Refusals.{answer}
 use Rattle.tightening.specs.Rows.{words_a_field_lem}
 use Rattle.tightening.proofs.Finishing.{both_hold}
 use Rattle.tightening.proofs.tighten.check_tightening.Goals as goal

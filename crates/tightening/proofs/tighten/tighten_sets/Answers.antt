@@ -1,15 +1,9 @@
-use Rattle.std.proofs.Common.{◌≡◌, ◌*◌, ◌<◌, ◌≤◌, true, false, length, Err, vec_items, sym, refl, ap, ◌∙◌, subst, inr, arith}
+use Rattle.std.proofs.Common.{◌≡◌, length, Err, sym, refl, ap, ◌∙◌, subst, inr, arith}
 use Rattle.std.proofs.lemmas.List.{with_items_is}
-use Rattle.network.specs.Network.{part, words}
+use Rattle.network.specs.Network.{words}
 use Rattle.network.proofs.Words.{length_words}
-use Rattle.books.specs.Pairs.{pairs_of}
-use Rattle.propagation.specs.Progress.{Filled}
-use Rattle.tightening.specs.Done.{Tightens, NotTightened}
-use Rattle.tightening.specs.Start.{StayBeyond}
-use Rattle.tightening.specs.Tightening.{Tightest}
-use Rattle.tightening.specs.declared.tighten.Untightened.TheVariants.{Refused}
+use Rattle.tightening.specs.Done.{Tightens}
 use Rattle.tightening.proofs.Finishing.{passed, done, undone}
-use Rattle.tightening.proofs.Turning.{beyond_then}
 use Rattle.tightening.proofs.tighten.tighten_sets.Goals as goal
 
 pub tighten_copy-requires : goal.tighten_copy-requires

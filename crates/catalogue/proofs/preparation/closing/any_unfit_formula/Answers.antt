@@ -1,4 +1,4 @@
-use Rattle.std.proofs.Common.{drop, pos, sym, ap, ◌∙◌}
+use Rattle.std.proofs.Common.{pos, sym, ap, ◌∙◌}
 use Rattle.network.specs.declared.rules.Kind.TheVariants.{Equal}
 use Rattle.catalogue.specs.Content.{any, no_fields}
 use Rattle.std.proofs.lemmas.List.{drop_all}

@@ -1,4 +1,4 @@
-use Rattle.std.proofs.Common.{drop, sym, ap, ◌∙◌}
+use Rattle.std.proofs.Common.{sym, ap, ◌∙◌}
 use Rattle.catalogue.specs.Content.{any, no_fields}
 use Rattle.std.proofs.lemmas.List.{drop_all}
 use Rattle.catalogue.proofs.Any.{any_here, any_next}

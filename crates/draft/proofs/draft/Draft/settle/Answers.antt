@@ -1,7 +1,7 @@
-use Rattle.std.proofs.Common.{◌≡◌, ℕ, ◌+◌, ◌-◌, ◌*◌, ◌<◌, ◌≤◌, true, List, [], length, vec_items, vec_len, vec_capacity, sym, refl, ap, ◌∙◌, subst, arith}
+use Rattle.std.proofs.Common.{◌≡◌, ◌-◌, [], length, vec_items, vec_len, vec_capacity, sym, refl, ap, ◌∙◌, subst, arith}
 use Rattle.std.proofs.lemmas.List.{with_items_is}
 use Rattle.faults.specs.declared.EngineFault.TheVariants.{NotOpened, WipedOut}
-use Rattle.network.specs.Network.{Rule, words}
+use Rattle.network.specs.Network.{words}
 use Rattle.propagation.specs.Opening.{Accepted}
 use Rattle.propagation.specs.Progress.{Progress, SettledOn, WipedFrom}
 use Rattle.propagation.specs.Strikes.{options}

@@ -1,4 +1,4 @@
-use Rattle.std.proofs.Common.{◌≡◌, ℕ, ◌/◌, ◌%◌, List, [], ◌∷◌, ◌++◌, length, get_or, drop, sym, refl, ap, ◌∙◌, subst, MatchResult}
+use Rattle.std.proofs.Common.{◌≡◌, ℕ, ◌/◌, ◌%◌, List, [], ◌∷◌, ◌++◌, length, get_or, drop, sym, ap, ◌∙◌, subst, MatchResult}
 use Rattle.frames.specs.Lines.{line_of, writing}
 use Rattle.frames.specs.Answers.{answer_bytes}
 use Rattle.frames.proofs.answers.Answer.write.Goals as goal
