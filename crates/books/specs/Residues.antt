@@ -1,5 +1,5 @@
 -- Residues: for each rule, side and option the last partner that was told.
-use Rattle.std.specs.Prelude.{◌≡◌, ℕ, ◌+◌, ◌*◌, ◌<◌, cond, T, List, map, set, Some, None, Option, nat_lt, slice_index_or, slice_set}
+use Rattle.std.specs.Prelude.{◌≡◌, ℕ, ◌+◌, ◌*◌, ◌<◌, cond, T, List, map, Some, None, Option, nat_lt, slice_index_or, slice_set}
 use Rattle.network.specs.Network.{option_limit, rule_limit, has, Rule}
 use Rattle.network.specs.declared.rules.Side.{Side}
 use Rattle.network.specs.declared.rules.Side.TheVariants.{Left, Right}

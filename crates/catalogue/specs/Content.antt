@@ -1,5 +1,5 @@
 -- What a catalogue holds, what entering fields and rules does to it, and when it can be closed.
-use Rattle.std.specs.Prelude.{ℕ, ◌+◌, ◌-◌, ◌*◌, ◌^◌, ◌<◌, Bool, true, false, cond, not, ◌||◌, List, [], ◌∷◌, length, pos, negsuc, Some, None, Ok, Err, Option, Result, ◌==◌, int_lt, nat_eq, nat_le, nat_lt, slice_index}
+use Rattle.std.specs.Prelude.{ℕ, ◌+◌, ◌-◌, ◌*◌, ◌^◌, ◌<◌, Bool, true, false, cond, ◌||◌, List, [], ◌∷◌, length, pos, negsuc, Some, None, Ok, Err, Option, Result, ◌==◌, int_lt, nat_eq, nat_le, nat_lt, slice_index}
 use Rattle.network.specs.Network.{option_limit, field_limit, rule_limit, words}
 use Rattle.network.specs.declared.options.OptionSet.{OptionSet}
 use Rattle.network.specs.declared.rules.Ends.{Ends}

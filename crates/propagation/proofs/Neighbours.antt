@@ -4,7 +4,6 @@ use lib.Arith.{digits_div}
 use Rattle.std.proofs.lemmas.Bool.{cases_eq, cases_lt, ne_eqb, not_from_false, lt-ltb, le-ltb, cond-true, cond-false}
 use Rattle.network.specs.Network.{rule_limit}
 use Rattle.network.specs.declared.rules.Ends.{Ends}
-use Rattle.network.specs.declared.rules.Side.{Side}
 use Rattle.network.specs.declared.rules.Side.TheVariants.{Left, Right}
 use Rattle.agenda.specs.Waiting.{Waiting, Same}
 use Rattle.agenda.specs.Jobs.{side_number, side_of, arc_number, arc_of, put_job_lem}

@@ -1,4 +1,4 @@
-use Rattle.std.proofs.Common.{◌≡◌, ◌*◌, ◌/◌, ◌<◌, length, sym, ap, ◌∙◌, subst, arith}
+use Rattle.std.proofs.Common.{◌≡◌, ◌/◌, ◌<◌, length, sym, ap, subst, arith}
 use Rattle.propagation.specs.Chains.{Next}
 use Rattle.propagation.proofs.Neighbours.{numbered, ended, chain_starts, chain_goes_on, one_still, one_below, one_more, all_put}
 use Rattle.propagation.proofs.arcs.put_neighbours.Goals as goal

@@ -1,4 +1,4 @@
-use Rattle.std.proofs.Common.{Some, None, sym, refl, ◌∙◌}
+use Rattle.std.proofs.Common.{Some, sym, refl, ◌∙◌}
 use Rattle.books.specs.Residues.{partners_in}
 use Rattle.books.proofs.Keeping.{told_in_table, kept_already}
 use Rattle.books.proofs.remembering.Remembering.tell.Goals as goal

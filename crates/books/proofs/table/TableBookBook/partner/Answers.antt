@@ -1,4 +1,4 @@
-use Rattle.std.proofs.Common.{◌^◌, ◌<◌, ◌&&◌, ltb, sym, refl, ap, ◌∙◌, ltb→lt, rules}
+use Rattle.std.proofs.Common.{◌^◌, ◌<◌, ◌&&◌, ltb, sym, refl, ap, ◌∙◌, ltb→lt}
 use lib.Bits.{bit_and}
 use Rattle.network.specs.Network.{option_limit, words}
 use Rattle.network.proofs.Truth.{T_yes, yes_T, T_left, T_right}

@@ -1,5 +1,5 @@
-use Rattle.std.proofs.Common.{◌≡◌, ◌≤◌, false, eqb, length, sym, refl, ap, ◌∙◌, subst, arith}
-use Rattle.catalogue.specs.Content.{any, Fit, no_fields, rule_count}
+use Rattle.std.proofs.Common.{◌≡◌, false, eqb, length, sym, refl, ap, ◌∙◌, subst, arith}
+use Rattle.catalogue.specs.Content.{any, Fit, no_fields}
 use Rattle.catalogue.specs.View.{content}
 use Rattle.catalogue.proofs.Closing.{closes}
 use Rattle.catalogue.proofs.preparation.Preparation.closing_fault.Goals as goal

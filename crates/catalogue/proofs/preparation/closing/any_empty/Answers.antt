@@ -1,4 +1,4 @@
-use Rattle.std.proofs.Common.{◌^◌, ◌<◌, ◌≤◌, eqb, length, get_or, drop, sym, ap, ◌∙◌, subst, inl, inr, arith, lit<, rules, below_more}
+use Rattle.std.proofs.Common.{◌^◌, ◌<◌, ◌≤◌, eqb, length, get_or, sym, ap, ◌∙◌, subst, inl, inr, arith, lit<, rules, below_more}
 use Rattle.std.proofs.lemmas.List.{drop_all}
 use Rattle.std.proofs.lemmas.Bool.{true≢false, cases_lt, eq-eqb, ne_eqb}
 use Rattle.network.specs.Network.{words, option_limit}
