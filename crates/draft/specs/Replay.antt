@@ -1,5 +1,5 @@
 -- What a list of calls does to a draft, and the law over it from the opening on.
-use Rattle.std.specs.Prelude.{◌≡◌, ℕ, true, false, List, map, reverse, vec_items, Decides}
+use Rattle.std.specs.Prelude.{◌≡◌, ℕ, true, false, List, [], map, reverse, vec_items, Decides}
 use Rattle.agenda.specs.declared.agenda.Agenda.{Ghosts as AgendaGhosts}
 use Rattle.books.specs.declared.book.Book.{Ghosts as BookGhosts}
 use Rattle.faults.specs.declared.EngineFault.TheVariants.{NotOpened}

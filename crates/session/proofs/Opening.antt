@@ -1,7 +1,7 @@
 -- A catalogue that can be closed is one over which a draft can be opened.
 use Rattle.std.proofs.Common.{◌≡◌, ℕ, suc, ◌+◌, Bool, true, false, ◌||◌, eqb, ltb, List, [], ◌∷◌, ◌++◌, length, None, sym, refl, ap, ◌∙◌, subst}
 use Rattle.std.proofs.lemmas.List.{length-append, length-map}
-use Rattle.network.specs.Network.{Rule, words, field_limit, rule_limit}
+use Rattle.network.specs.Network.{words, field_limit, rule_limit}
 use Rattle.network.specs.declared.options.OptionSet.{OptionSet}
 use Rattle.network.specs.declared.rules.Ends.{Ends}
 use Rattle.network.specs.declared.rules.FormulaRule.{FormulaRule}

@@ -1,4 +1,4 @@
-use Rattle.std.proofs.Common.{◌≡◌, sym, subst, rules}
+use Rattle.std.proofs.Common.{sym, subst, rules}
 use Rattle.session.specs.Steps.{state, Replied}
 use Rattle.session.proofs.Exchanging.{exchanged, replied_by}
 use Rattle.session.proofs.Reaching.{law_kept}

@@ -1,4 +1,4 @@
-use Rattle.std.proofs.Common.{◌≡◌, ℕ, List, [], ◌∷◌, ◌++◌, take, sym, refl, ap, ◌∙◌, inl, inr, rules}
+use Rattle.std.proofs.Common.{◌≡◌, [], ◌∷◌, ◌++◌, take, sym, refl, ap, ◌∙◌, inl, inr, rules}
 use Rattle.session.specs.Pending.{kept}
 use Rattle.session.proofs.Reach.{reach_again, reach_more}
 use Rattle.session.proofs.Reaching.{law_kept}

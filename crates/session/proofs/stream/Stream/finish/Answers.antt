@@ -1,4 +1,4 @@
-use Rattle.std.proofs.Common.{◌≡◌, ℕ, List, [], length, take, sym, refl, ap, ◌∙◌, inl, inr, arith, rules}
+use Rattle.std.proofs.Common.{◌≡◌, [], length, take, sym, ap, ◌∙◌, inr, rules}
 use Rattle.std.proofs.lemmas.Bool.{eqb-false}
 use Rattle.session.specs.Pending.{kept}
 use Rattle.session.proofs.Reach.{reach_again}
