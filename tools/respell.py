@@ -13,23 +13,12 @@ from pathlib import Path
 # a name of antt: letters, digits, dashes, underscores and primes
 NAME = r"[^\W\d](?:[\w'-]|(?<=\w)′)*"
 SIGNATURE = re.compile(rf"^\s*(?:(?:abbrev|unfoldable|pub|where|let)\s+)*({NAME})\s*:(?![=:])\s*(.*)$")
+ALIAS = re.compile(rf"\bas ({NAME})")
 RECORD = re.compile(rf"^\s*(?:pub\s+)?(?:record|data)\s+({NAME})")
 TOKEN = re.compile(rf"{NAME}")
 
-# Names that would fall together with a function of src/, a variant or another name.
-BY_HAND = {
-    "Wiped-out": "IsWipedOut",
-    "call-of": "call_of_lem",
-    "fields-full": "fields_full_lem",
-    "formulas-full": "formulas_full_lem",
-    "partner-in": "partner_in_lem",
-    "put-back-one": "put_back_one_lem",
-    "put-job": "put_job_lem",
-    "residue-place": "residue_place_lem",
-    "tables-full": "tables_full_lem",
-    "unfit-formula": "unfit_formula_lem",
-    "words-a-field": "words_a_field_lem",
-}
+# A name that would fall together with that of a variant.
+BY_HAND = {"Wiped-out": "IsWipedOut"}
 
 
 def files(suffix):
@@ -55,12 +44,16 @@ def is_a_type(lines, at, rest):
 
 
 def declared():
-    """The names that specs/ and proofs/ declare: each with whether it is a type, and where."""
+    """The names that specs/ and proofs/ declare, aliases too: each with whether it is a type, and where."""
     found = {}
     for path in files(".antt"):
         lines = path.read_text().split("\n")
         for at, line in enumerate(lines):
             if line.lstrip().startswith("--"):
+                continue
+            if line.startswith("use "):
+                for alias in ALIAS.findall(line):
+                    found.setdefault(alias, []).append((alias[0].isupper(), path))
                 continue
             record = RECORD.match(line)
             if record:

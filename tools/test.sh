@@ -1,6 +1,6 @@
 #!/bin/sh
-# The whole test: everything proved from nothing, every must-fail edit refused, every program and test run, and the
-# checks that 'rt ci' cannot make. Needs the Rattle kit and a POSIX shell. The last line is 'N passed, M failed'.
+# The whole test: everything proved, every must-fail edit refused, every program and test run, and the checks that
+# 'rt ci' cannot make. Needs the Rattle kit and a POSIX shell. The last line is 'N passed, M failed'.
 set -u
 cd "$(dirname "$0")/.." || exit 2
 work=$(mktemp -d) || exit 2
@@ -40,11 +40,12 @@ case $last in
 esac
 
 # An edit that cannot be tried is passed over by 'rt ci', and counts as a failure here.
-! grep '^rt: ok' "$work/log" | grep -Eq ', [1-9][0-9]* bad'
+grep '^rt: ok' "$work/log" >"$work/ok" && ! grep -Eq ', [1-9][0-9]* bad' "$work/ok"
 tell "every must-fail edit was tried" $?
 
 # Uses that the compiler must stop.
 sh tools/misuse.sh >"$work/misuse"
+tell "misuse" $?
 cat "$work/misuse"
 passed=$((passed + $(grep -c ': ok$' "$work/misuse")))
 failed=$((failed + $(grep -c ': FAILED$' "$work/misuse")))

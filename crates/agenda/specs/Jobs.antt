@@ -38,8 +38,8 @@ abbrev pub probe_fits : Probe → Bool
 probe_fits p = nat_lt p.field field_limit && nat_lt p.option option_limit
 
 -- what waits once a job was put: its number as well, unless the job does not fit its kind
-abbrev pub put_job_lem : Waiting → Bool → ℕ → Waiting
-put_job_lem w fits n k = cond fits (with_one w n k) (w k)
+abbrev pub put_job : Waiting → Bool → ℕ → Waiting
+put_job w fits n k = cond fits (with_one w n k) (w k)
 
 -- a job was taken as its number is, and fits its kind; none came if nothing waited, or if the number that was taken
 -- stands for no job of the kind. So where only numbers below the limit waited, none says that nothing waits

@@ -2,7 +2,7 @@
 
 ghost use Rattle.std.specs.Prelude.{◌≡◌, ℕ, ◌<◌, ◌≤◌, Bool, true, if◌then◌else◌, Some, None, nat_lt};
 ghost use Rattle.agenda.specs.Waiting.{number_limit, Same};
-ghost use Rattle.agenda.specs.Jobs.{arc_number, arc_of, arc_fits, probe_number, probe_of, probe_fits, put_job_lem, JobTaken};
+ghost use Rattle.agenda.specs.Jobs.{arc_number, arc_of, arc_fits, probe_number, probe_of, probe_fits, put_job, JobTaken};
 ghost use Rattle.std.proofs.Common.{rules};
 
 use crate::agenda::Agenda;
@@ -22,7 +22,7 @@ pub trait Job: Sized {
 
     ghost fits: { Self → Bool };
 
-    // The constant above, for clauses, which cannot name it.
+    // The constant above, which clauses know as `limit`.
     fn limit_of() -> u16
         ensures { result ≡ limit };
 
@@ -144,7 +144,7 @@ impl Job for Probe {
 // Lets a job wait and answers yes; one that does not fit its kind changes nothing, and the answer is no.
 pub fn put_job<J: Job, W: Agenda>(agenda: &mut W, job: J, urgency: u8) -> bool
     ensures answer { result ≡ J.Job.fits job }
-    ensures waiting { Same (put_job_lem (W.Agenda.waiting agenda.old) (J.Job.fits job) (J.Job.number job)) (W.Agenda.waiting agenda.new) }
+    ensures waiting { Same (put_job (W.Agenda.waiting agenda.old) (J.Job.fits job) (J.Job.number job)) (W.Agenda.waiting agenda.new) }
 {
     match job.to_number() {
         Some(number) => agenda.put(number, urgency),

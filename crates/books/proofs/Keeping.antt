@@ -5,7 +5,7 @@ use Rattle.network.specs.Network.{Rule, option_limit, rule_limit}
 use Rattle.network.specs.declared.rules.Side.{Side}
 use Rattle.network.specs.declared.rules.Side.TheVariants.{Left, Right}
 use Rattle.books.specs.Reads.{Partner}
-use Rattle.books.specs.Residues.{InTable, partner_in_lem, residue, residue_place_lem, residue_count, kept_for}
+use Rattle.books.specs.Residues.{InTable, partner_in, residue, residue_place, residue_count, kept_for}
 use Rattle.books.specs.declared.residues.Residue.{Residue}
 use Rattle.books.proofs.Asked.{allowed_range}
 
@@ -14,20 +14,20 @@ told_in_table rules side r a w (Some b) f = let i = allowed_range rules side r a
 told_in_table rules side r a w None f = tt
 
 -- the place of a residue lies in the table
-pub place_within : (side : Side) (r a : ℕ) → r < rule_limit → a < option_limit → residue_place_lem side r a < residue_count
+pub place_within : (side : Side) (r a : ℕ) → r < rule_limit → a < option_limit → residue_place side r a < residue_count
 place_within Left r a h l = omega arith
 place_within Right r a h l = omega arith
 
 -- at first there are none
-pub all_alike : (n : ℕ) (s : Residue) (o : Option ℕ) → partner_in_lem s ≡ o → map partner_in_lem (replicate n s) ≡ replicate n o
+pub all_alike : (n : ℕ) (s : Residue) (o : Option ℕ) → partner_in s ≡ o → map partner_in (replicate n s) ≡ replicate n o
 all_alike zero s o e = refl
-all_alike (suc n) s o e = ap (λ x. x ∷ map partner_in_lem (replicate n s)) e ∙ ap (λ xs. o ∷ xs) (all_alike n s o e)
+all_alike (suc n) s o e = ap (λ x. x ∷ map partner_in (replicate n s)) e ∙ ap (λ xs. o ∷ xs) (all_alike n s o e)
 
 -- a residue that is kept again changes nothing
 pub kept_already : (kept : List (Option ℕ)) (side : Side) (r a b : ℕ) → residue kept side r a ≡ Some b → kept ≡ kept_for kept side r a (Some b)
-kept_already kept side r a b e = sym (set-get_or kept (residue_place_lem side r a) None) ∙ ap (set kept (residue_place_lem side r a)) e
+kept_already kept side r a b e = sym (set-get_or kept (residue_place side r a) None) ∙ ap (set kept (residue_place side r a)) e
 
 -- one residue is written
-pub kept_next : (table : List Residue) (side : Side) (r a b p : ℕ) (s : Residue) → p ≡ residue_place_lem side r a → partner_in_lem s ≡ Some b
-    → map partner_in_lem (set table p s) ≡ kept_for (map partner_in_lem table) side r a (Some b)
-kept_next table side r a b p s e f = map-set partner_in_lem table p s ∙ ap (set (map partner_in_lem table) p) f ∙ ap (λ q. set (map partner_in_lem table) q (Some b)) e
+pub kept_next : (table : List Residue) (side : Side) (r a b p : ℕ) (s : Residue) → p ≡ residue_place side r a → partner_in s ≡ Some b
+    → map partner_in (set table p s) ≡ kept_for (map partner_in table) side r a (Some b)
+kept_next table side r a b p s e f = map-set partner_in table p s ∙ ap (set (map partner_in table) p) f ∙ ap (λ q. set (map partner_in table) q (Some b)) e

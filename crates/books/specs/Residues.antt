@@ -9,12 +9,12 @@ use Rattle.books.specs.declared.residues.Residue.{Residue}
 use Rattle.books.specs.declared.residues.Residues.{Residues}
 
 -- the partner that a byte stands for
-abbrev pub partner_in_lem : Residue → Option ℕ
-partner_in_lem s = cond (nat_lt s.byte option_limit) (Some s.byte) None
+abbrev pub partner_in : Residue → Option ℕ
+partner_in s = cond (nat_lt s.byte option_limit) (Some s.byte) None
 
 -- the partners of a whole table
 abbrev pub partners_in : Residues → List (Option ℕ)
-partners_in s = map partner_in_lem s.table
+partners_in s = map partner_in s.table
 
 -- the left side's residues come before the right side's
 abbrev pub side_number : Side → ℕ
@@ -26,21 +26,21 @@ abbrev pub residue_count : ℕ
 residue_count = rule_limit * 2 * option_limit
 
 -- the place of the residue of option a on a side of rule r
-abbrev pub residue_place_lem : Side → ℕ → ℕ → ℕ
-residue_place_lem side r a = (r * 2 + side_number side) * option_limit + a
+abbrev pub residue_place : Side → ℕ → ℕ → ℕ
+residue_place side r a = (r * 2 + side_number side) * option_limit + a
 
 -- the partner that is kept for option a on a side of rule r
 abbrev pub residue : List (Option ℕ) → Side → ℕ → ℕ → Option ℕ
-residue kept side r a = slice_index_or kept (residue_place_lem side r a) None
+residue kept side r a = slice_index_or kept (residue_place side r a) None
 
 -- what is kept once an answer is kept for a alone
 abbrev pub kept_for : List (Option ℕ) → Side → ℕ → ℕ → Option ℕ → List (Option ℕ)
-kept_for kept side r a (Some b) = slice_set kept (residue_place_lem side r a) (Some b)
+kept_for kept side r a (Some b) = slice_set kept (residue_place side r a) (Some b)
 kept_for kept side r a None = kept
 
 -- what is kept after an answer: b for a, and across the rule a for b
 abbrev pub kept_after : List (Option ℕ) → Side → ℕ → ℕ → Option ℕ → List (Option ℕ)
-kept_after kept side r a (Some b) = slice_set (slice_set kept (residue_place_lem side r a) (Some b)) (residue_place_lem (opposite side) r b) (Some a)
+kept_after kept side r a (Some b) = slice_set (slice_set kept (residue_place side r a) (Some b)) (residue_place (opposite side) r b) (Some a)
 kept_after kept side r a None = kept
 
 -- the kept partner is told if it is in the set and allowed

@@ -2,7 +2,7 @@
 
 ghost use Rattle.std.specs.Prelude.{◌≡◌, ◌<◌, replicate, Some, None};
 ghost use Rattle.network.specs.Network.{option_limit, rule_limit};
-ghost use Rattle.books.specs.Residues.{residue_count, residue_place_lem, residue, partner_in_lem, partners_in, kept_for, InTable};
+ghost use Rattle.books.specs.Residues.{residue_count, residue_place, residue, partner_in, partners_in, kept_for, InTable};
 
 use network::options::OPTIONS;
 use network::rules::{RULES, Side};
@@ -18,20 +18,20 @@ struct Residue {
 
 impl Residue {
     fn none() -> Residue
-        ensures { partner_in_lem result ≡ None }
+        ensures { partner_in result ≡ None }
     {
         Residue { byte: u8::MAX }
     }
 
     fn of(partner: u8) -> Residue
         requires { partner < option_limit }
-        ensures { partner_in_lem result ≡ Some partner }
+        ensures { partner_in result ≡ Some partner }
     {
         Residue { byte: partner }
     }
 
     fn partner(self) -> Option<u8>
-        ensures { result ≡ partner_in_lem self }
+        ensures { result ≡ partner_in self }
     {
         if self.byte < OPTIONS {
             return Some(self.byte);
@@ -75,7 +75,7 @@ impl Residues {
 
 // The place of a residue in the table.
 fn residue_place(rule: u8, side: Side, option: u8) -> usize
-    ensures { result ≡ residue_place_lem side rule option }
+    ensures { result ≡ residue_place side rule option }
 {
     let number = match side {
         Side::Left => 0,

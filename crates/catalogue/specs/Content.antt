@@ -46,31 +46,31 @@ unknown Apart = false
 unknown Unknown = true
 
 -- a formula rule with unfit ends, an unknown kind or a difference outside -31 to 31
-abbrev pub unfit_formula_lem : FormulaRule → Bool
-unfit_formula_lem f =
+abbrev pub unfit_formula : FormulaRule → Bool
+unfit_formula f =
     unfit_ends f.left f.right || (unknown f.kind || (int_lt f.difference (negsuc 30) || int_lt (pos 31) f.difference))
 
 -- 16 fields are entered, or no lent place is left
-abbrev pub fields_full_lem : Content → Bool
-fields_full_lem c = nat_le field_limit (length c.sets.entered) || length c.sets.free == 0
+abbrev pub fields_full : Content → Bool
+fields_full c = nat_le field_limit (length c.sets.entered) || length c.sets.free == 0
 
 -- 128 rules are entered, or no lent place is left for one more of that form
-abbrev pub tables_full_lem : Content → Bool
-tables_full_lem c = nat_le rule_limit (rule_count c) || (length c.ends.free == 0 || nat_lt (length c.rows.free) option_limit)
+abbrev pub tables_full : Content → Bool
+tables_full c = nat_le rule_limit (rule_count c) || (length c.ends.free == 0 || nat_lt (length c.rows.free) option_limit)
 
-abbrev pub formulas_full_lem : Content → Bool
-formulas_full_lem c = nat_le rule_limit (rule_count c) || length c.formulas.free == 0
+abbrev pub formulas_full : Content → Bool
+formulas_full c = nat_le rule_limit (rule_count c) || length c.formulas.free == 0
 
 -- a field is entered under its number, which must be the next
 abbrev pub field_refusal : Content → ℕ → Option EngineFault
-field_refusal c field = cond (fields_full_lem c) (Some Full) (cond (field == length c.sets.entered) None (Some NotNext))
+field_refusal c field = cond (fields_full c) (Some Full) (cond (field == length c.sets.entered) None (Some NotNext))
 
 abbrev pub with_field : Content → OptionSet → Content
 with_field c s = record { sets = added c.sets s; ends = c.ends; rows = c.rows; formulas = c.formulas }
 
 -- a table rule between two fields is started, with no pair
 abbrev pub table_refusal : Content → Ends → Option EngineFault
-table_refusal c e = cond (unfit_ends e.left e.right) (Some UnfitRule) (cond (tables_full_lem c) (Some Full) None)
+table_refusal c e = cond (unfit_ends e.left e.right) (Some UnfitRule) (cond (tables_full c) (Some Full) None)
 
 abbrev pub with_table : Content → Ends → Content
 with_table c e = record { sets = c.sets; ends = added c.ends e; rows = extended c.rows option_limit no_option; formulas = c.formulas }
@@ -89,7 +89,7 @@ with_row c a s = record {
 
 -- a formula rule is entered
 abbrev pub formula_refusal : Content → FormulaRule → Option EngineFault
-formula_refusal c f = cond (unfit_formula_lem f) (Some UnfitRule) (cond (formulas_full_lem c) (Some Full) None)
+formula_refusal c f = cond (unfit_formula f) (Some UnfitRule) (cond (formulas_full c) (Some Full) None)
 
 abbrev pub with_formula : Content → FormulaRule → Content
 with_formula c f = record { sets = c.sets; ends = c.ends; rows = c.rows; formulas = added c.formulas f }

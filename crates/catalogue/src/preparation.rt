@@ -2,7 +2,7 @@
 
 ghost use Rattle.std.specs.Prelude.{◌≡◌, nat_le};
 ghost use Rattle.network.specs.Network.{rule_limit};
-ghost use Rattle.catalogue.specs.Content.{unprepared, answer, outcome, field_refusal, with_field, table_refusal, with_table, row_refusal, with_row, formula_refusal, with_formula, unfit_ends, unfit_formula_lem, fields_full_lem, tables_full_lem, formulas_full_lem, rule_count};
+ghost use Rattle.catalogue.specs.Content.{unprepared, answer, outcome, field_refusal, with_field, table_refusal, with_table, row_refusal, with_row, formula_refusal, with_formula, unfit_ends, unfit_formula, fields_full, tables_full, formulas_full, rule_count};
 ghost use Rattle.catalogue.specs.View.{content};
 
 mod closing;
@@ -30,7 +30,7 @@ fn unfit(left: u8, right: u8) -> bool
 }
 
 fn unfit_formula(rule: FormulaRule) -> bool
-    ensures { result ≡ unfit_formula_lem rule }
+    ensures { result ≡ unfit_formula rule }
 {
     unfit(rule.left, rule.right)
         || rule.kind == Kind::Unknown
@@ -64,19 +64,19 @@ impl<'a> Preparation<'a> {
     }
 
     fn fields_full(&self) -> bool
-        ensures { result ≡ fields_full_lem (content self.now) }
+        ensures { result ≡ fields_full (content self.now) }
     {
         (self.sets.len() >= FIELDS as usize) | (self.sets.room() == 0)
     }
 
     fn tables_full(&self) -> bool
-        ensures { result ≡ tables_full_lem (content self.now) }
+        ensures { result ≡ tables_full (content self.now) }
     {
         self.rules_full() | ((self.ends.room() == 0) | (self.rows.room() < OPTIONS as usize))
     }
 
     fn formulas_full(&self) -> bool
-        ensures { result ≡ formulas_full_lem (content self.now) }
+        ensures { result ≡ formulas_full (content self.now) }
     {
         self.rules_full() | (self.formulas.room() == 0)
     }

@@ -6,7 +6,7 @@ use Rattle.network.specs.Network.{rule_limit}
 use Rattle.network.specs.declared.rules.Ends.{Ends}
 use Rattle.network.specs.declared.rules.Side.TheVariants.{Left, Right}
 use Rattle.agenda.specs.Waiting.{Waiting, Same}
-use Rattle.agenda.specs.Jobs.{side_number, side_of, arc_number, arc_of, put_job_lem}
+use Rattle.agenda.specs.Jobs.{side_number, side_of, arc_number, arc_of, put_job}
 use Rattle.agenda.specs.declared.job.Arc.{Arc}
 use Rattle.propagation.specs.Arcs.{number_of, Neighbours, OnlyBelow}
 use Rattle.propagation.specs.Chains.{arc_limit, field_across, Next, ChainedFrom, PutBelow}
@@ -60,12 +60,12 @@ chain_goes_on ends c x j j' chained within here e =
     subst (Next ends x (j + 1)) (sym e) (subst (λ z. Next ends z (j + 1) (get_or c.next j 0)) here (chained.nexts j (omega arith) within))
 
 -- one arc of a chain was put, unless it is of the one rule
-module _ (ends : List Ends) (x but j : ℕ) (arc : Arc) (is : arc ≡ arc_of j) (w w' : Waiting) (put : Same (put_job_lem w (not (eqb arc.rule but)) (arc_number arc)) w') where
+module _ (ends : List Ends) (x but j : ℕ) (arc : Arc) (is : arc ≡ arc_of j) (w w' : Waiting) (put : Same (put_job w (not (eqb arc.rule but)) (arc_number arc)) w') where
   number_is : arc_number arc ≡ j
   number_is = ap arc_number is ∙ arc_back j
 
-  put_here : Same (put_job_lem w (not (eqb arc.rule but)) j) w'
-  put_here = subst (λ n. Same (put_job_lem w (not (eqb arc.rule but)) n) w') number_is put
+  put_here : Same (put_job w (not (eqb arc.rule but)) j) w'
+  put_here = subst (λ n. Same (put_job w (not (eqb arc.rule but)) n) w') number_is put
 
   pub one_still : (k : ℕ) → w k ≡ true → w' k ≡ true
   one_still = put_still w w' (not (eqb arc.rule but)) j put_here

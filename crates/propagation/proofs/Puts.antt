@@ -5,11 +5,11 @@ use Rattle.network.specs.declared.rules.Ends.{Ends}
 use Rattle.network.specs.declared.rules.Side.{Side}
 use Rattle.network.specs.declared.rules.Side.TheVariants.{Left, Right}
 use Rattle.agenda.specs.Waiting.{Waiting, Same, without}
-use Rattle.agenda.specs.Jobs.{put_job_lem}
+use Rattle.agenda.specs.Jobs.{put_job}
 use Rattle.propagation.specs.Arcs.{listed_across, number_of, Neighbours, Still}
 
 -- a number was put, if it was wanted
-module _ (w w' : Waiting) (wanted : Bool) (n : ℕ) (put : Same (put_job_lem w wanted n) w') where
+module _ (w w' : Waiting) (wanted : Bool) (n : ℕ) (put : Same (put_job w wanted n) w') where
   pub put_on : wanted ≡ true → w' n ≡ true
   put_on e = put n ∙ cond-true wanted _ (w n) e ∙ or_left (eqb n n) (w n) (eq-eqb n n refl)
 
@@ -28,7 +28,7 @@ module _ (w w' : Waiting) (wanted : Bool) (n : ℕ) (put : Same (put_job_lem w w
       ]
 
 -- both arcs of rule r were put, where they were wanted
-module _ (w w₁ w₂ : Waiting) (r : ℕ) (l m : Bool) (one : Same (put_job_lem w l (number_of r Left)) w₁) (two : Same (put_job_lem w₁ m (number_of r Right)) w₂) where
+module _ (w w₁ w₂ : Waiting) (r : ℕ) (l m : Bool) (one : Same (put_job w l (number_of r Left)) w₁) (two : Same (put_job w₁ m (number_of r Right)) w₂) where
   pub both_still : Still w w₂
   both_still k h = put_still w₁ w₂ m (number_of r Right) two k (put_still w w₁ l (number_of r Left) one k h)
 

@@ -21,8 +21,8 @@ fit_without sets x a stands fit y =
     ]
 
 -- a struck option is put back
-put_back_one_lem : (sets : List ℕ) (s : Strike) → Fit sets → T (part sets s.field s.option) → put_one (without sets s.field s.option) s ≡ sets
-put_back_one_lem sets s fit stands =
+put_back_one : (sets : List ℕ) (s : Strike) → Fit sets → T (part sets s.field s.option) → put_one (without sets s.field s.option) s ≡ sets
+put_back_one sets s fit stands =
     let x = s.field in
     let w = get_or sets x 0 in
     let again : set_with (get_or (without sets x s.option) x 0) s.option ≡ w =
@@ -34,4 +34,4 @@ pub undone : (rules : List Rule) (decisions : List Decision) (found : List Strik
 undone rules decisions [] first last fit e = e
 undone rules decisions (s ∷ rest) first last fit (stands, (h, more)) =
     ap (λ ws. put_one ws s) (undone rules decisions rest (without first s.field s.option) last (fit_without first s.field s.option stands fit) more)
-    ∙ put_back_one_lem first s fit stands
+    ∙ put_back_one first s fit stands

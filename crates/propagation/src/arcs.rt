@@ -3,7 +3,7 @@
 ghost use Rattle.std.specs.Prelude.{◌≡◌, ◌<◌, ◌≤◌, length, take};
 ghost use Rattle.network.specs.Network.{field_limit, rule_limit};
 ghost use Rattle.agenda.specs.Waiting.{Nothing, Same, with_one};
-ghost use Rattle.agenda.specs.Jobs.{arc_number, put_job_lem};
+ghost use Rattle.agenda.specs.Jobs.{arc_number, put_job};
 ghost use Rattle.propagation.specs.Arcs.{listed_own, listed_across, Listed, BetweenFields, OnlyBelow, AllBelow, Neighbours, Still};
 ghost use Rattle.propagation.specs.Chains.{Chained};
 
@@ -54,7 +54,7 @@ fn put_arc<W: Agenda>(sets: &[OptionSet], agenda: &mut W, arc: Arc, field: u8)
 fn put_if<W: Agenda>(sets: &[OptionSet], agenda: &mut W, arc: Arc, field: u8, wanted: bool)
     requires rule { arc.rule < rule_limit }
     requires field { field < length sets.now }
-    ensures { Same (put_job_lem (W.Agenda.waiting agenda.old) wanted (arc_number arc)) (W.Agenda.waiting agenda.new) }
+    ensures { Same (put_job (W.Agenda.waiting agenda.old) wanted (arc_number arc)) (W.Agenda.waiting agenda.new) }
 {
     if wanted {
         put_arc(sets, agenda, arc, field);

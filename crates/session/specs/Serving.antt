@@ -8,22 +8,22 @@ use Rattle.faults.specs.declared.ProgramFault.TheVariants.{Frame, Engine}
 use Rattle.network.specs.Network.{Rule, words}
 use Rattle.network.specs.Kinds.{kind_of}
 use Rattle.catalogue.specs.Content.{Content, field_refusal, with_field, table_refusal, with_table, row_refusal, with_row, formula_refusal, with_formula, closing_refusal}
-use Rattle.draft.specs.Draft.{State as Draft-state, Step, opened}
+use Rattle.draft.specs.Draft.{State as DraftState, Step, opened}
 use Rattle.draft.specs.declared.types.Call.{Call}
 use Rattle.draft.specs.declared.types.Call.TheVariants as call
-use Rattle.draft.specs.declared.types.Answer.{Answer as Draft-answer}
+use Rattle.draft.specs.declared.types.Answer.{Answer as DraftAnswer}
 use Rattle.draft.specs.declared.types.Answer.TheVariants as draft
 use Rattle.frames.specs.Received.{Received}
 use Rattle.frames.specs.declared.answers.Answer.{Answer}
 use Rattle.frames.specs.declared.answers.Answer.TheVariants.{Done, Shown, Settled}
-use Rattle.frames.specs.declared.frames.Frame.{Frame as A-frame}
+use Rattle.frames.specs.declared.frames.Frame.{Frame as AFrame}
 use Rattle.frames.specs.declared.frames.Frame.TheVariants as frame
 use Rattle.session.specs.Rules.{rules_of}
 
 -- a catalogue is in preparation, or a draft is open over rules
 pub data Situation : Type 0 where
   preparing : Content → Situation
-  drafting : List Rule → Draft-state → Situation
+  drafting : List Rule → DraftState → Situation
 
 -- a fault of the engine, passed up
 abbrev pub passed : Option EngineFault → Option ProgramFault
@@ -31,7 +31,7 @@ passed None = None
 passed (Some why) = Some (Engine why)
 
 -- why a frame is refused while the catalogue is in preparation, if so
-abbrev pub refusal : Content → A-frame → Option ProgramFault
+abbrev pub refusal : Content → AFrame → Option ProgramFault
 refusal c (frame.EnterField field s) = passed (field_refusal c field)
 refusal c (frame.StartTable left right) = passed (table_refusal c (record { left = left; right = right }))
 refusal c (frame.SetRow option s) = passed (row_refusal c option)
@@ -45,7 +45,7 @@ refusal c frame.TakeBack = Some (Frame Misplaced)
 refusal c (frame.Show field) = Some (Frame Misplaced)
 
 -- what a frame that is not refused leads to: one more entry, or a draft with everything standing over the catalogue's rules
-abbrev pub entered : Content → A-frame → Situation
+abbrev pub entered : Content → AFrame → Situation
 entered c (frame.EnterField field s) = preparing (with_field c s)
 entered c (frame.StartTable left right) = preparing (with_table c (record { left = left; right = right }))
 entered c (frame.SetRow option s) = preparing (with_row c option s)
@@ -68,18 +68,18 @@ outcome None before done = done
 outcome (Some why) before done = before
 
 -- the call on the draft that a frame asks for, if any
-abbrev pub call_of_lem : A-frame → Option Call
-call_of_lem (frame.EnterField field s) = None
-call_of_lem (frame.StartTable left right) = None
-call_of_lem (frame.SetRow option s) = None
-call_of_lem (frame.EnterFormula left right kind difference) = None
-call_of_lem frame.Open = None
-call_of_lem frame.TightenAndOpen = None
-call_of_lem (frame.Choose field option) = Some (call.Choose field option)
-call_of_lem (frame.Exclude field option) = Some (call.Exclude field option)
-call_of_lem frame.Settle = Some call.Settle
-call_of_lem frame.TakeBack = Some call.TakeBack
-call_of_lem (frame.Show field) = Some (call.Show field)
+abbrev pub call_of : AFrame → Option Call
+call_of (frame.EnterField field s) = None
+call_of (frame.StartTable left right) = None
+call_of (frame.SetRow option s) = None
+call_of (frame.EnterFormula left right kind difference) = None
+call_of frame.Open = None
+call_of frame.TightenAndOpen = None
+call_of (frame.Choose field option) = Some (call.Choose field option)
+call_of (frame.Exclude field option) = Some (call.Exclude field option)
+call_of frame.Settle = Some call.Settle
+call_of frame.TakeBack = Some call.TakeBack
+call_of (frame.Show field) = Some (call.Show field)
 
 -- the field that a call is about; 0 where it is about none
 abbrev pub field_of : Call → ℕ
@@ -90,33 +90,33 @@ field_of call.TakeBack = 0
 field_of (call.Show field) = field
 
 -- what a line is answered where its call was answered so
-abbrev pub replied : Call → Draft-answer → Result Answer ProgramFault
+abbrev pub replied : Call → DraftAnswer → Result Answer ProgramFault
 replied c draft.Done = Ok Done
 replied c (draft.Settled struck standing) = Ok (Settled struck standing)
 replied c (draft.Shown s) = Ok (Shown (field_of c) s)
 replied c (draft.Refused why) = Err (Engine why)
 
 -- the draft took one step
-pub record Called (rules : List Rule) (s : Draft-state) (c : Call) (r : Result Answer ProgramFault) (after : Situation) : Type 0 where
-  pub answer : Draft-answer
-  pub state : Draft-state
+pub record Called (rules : List Rule) (s : DraftState) (c : Call) (r : Result Answer ProgramFault) (after : Situation) : Type 0 where
+  pub answer : DraftAnswer
+  pub state : DraftState
   pub step : Step rules s c answer state
   pub replies : r ≡ replied c answer
   pub leaves : after ≡ drafting rules state
 
 -- what is answered to a frame with an open draft: a frame that asks for no call is misplaced, and changes nothing
-abbrev pub Asked : List Rule → Draft-state → Option Call → Result Answer ProgramFault → Situation → Type 0
+abbrev pub Asked : List Rule → DraftState → Option Call → Result Answer ProgramFault → Situation → Type 0
 Asked rules s None r after = (r ≡ Err (Frame Misplaced)) × (after ≡ drafting rules s)
 Asked rules s (Some c) r after = Called rules s c r after
 
 -- what is answered to a line that was received, or was not
-abbrev pub Answered : Situation → Result A-frame FrameFault → Result Answer ProgramFault → Situation → Type 0
+abbrev pub Answered : Situation → Result AFrame FrameFault → Result Answer ProgramFault → Situation → Type 0
 Answered before (Err fault) r after = (r ≡ Err (Frame fault)) × (after ≡ before)
 Answered (preparing c) (Ok f) r after = (r ≡ verdict (refusal c f)) × (after ≡ outcome (refusal c f) (preparing c) (entered c f))
-Answered (drafting rules s) (Ok f) r after = Asked rules s (call_of_lem f) r after
+Answered (drafting rules s) (Ok f) r after = Asked rules s (call_of f) r after
 
 -- a line was served
 pub record Served (before : Situation) (line : List ℕ) (r : Result Answer ProgramFault) (after : Situation) : Type 0 where
-  pub asked : Result A-frame FrameFault
+  pub asked : Result AFrame FrameFault
   pub received : Received line asked
   pub answered : Answered before asked r after

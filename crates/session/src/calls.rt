@@ -1,7 +1,7 @@
 // Frames as calls on the draft, and the draft's answers as those of a line.
 
 ghost use Rattle.std.specs.Prelude.{◌≡◌};
-ghost use Rattle.session.specs.Serving.{call_of_lem, field_of, replied};
+ghost use Rattle.session.specs.Serving.{call_of, field_of, replied};
 
 use draft::types;
 use draft::types::Call;
@@ -11,7 +11,7 @@ use frames::frames::Frame;
 
 // The call that a frame asks for, if any.
 pub fn call_of(frame: Frame) -> Option<Call>
-    ensures { result ≡ call_of_lem frame }
+    ensures { result ≡ call_of frame }
 {
     match frame {
         Frame::Choose { field, option } => Some(Call::Choose { field, option }),

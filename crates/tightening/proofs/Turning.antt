@@ -5,7 +5,7 @@ use Rattle.std.proofs.lemmas.Bool.{cases_eq, eq-eqb, ne_eqb}
 use Rattle.network.specs.Network.{has, Rule, Part, part, Largest}
 use Rattle.network.proofs.Truth.{yes_T, T_yes, T_no, T_left, T_right}
 use Rattle.network.proofs.Bits.{some_bit, none_of_zero}
-use Rattle.agenda.specs.Waiting.{Waiting, Same, Nothing, without as less-number}
+use Rattle.agenda.specs.Waiting.{Waiting, Same, Nothing, without as less_number}
 use Rattle.agenda.proofs.Waits.{waits_le}
 use Rattle.agenda.specs.Jobs.{probe_number, probe_fits}
 use Rattle.agenda.specs.declared.job.Probe.{Probe}
@@ -45,7 +45,7 @@ less_two_way q q' x a l two is =
 
 -- THE PROBE OF AN OPTION THAT IS GONE
 pub between_skip : (rules : List Rule) (first : List ℕ) (n : ℕ) (sets pairs : List ℕ) (w w' : Waiting) (x a : ℕ) → Between rules first n sets pairs w → a < 32
-    → Same (less-number w (probe_number (record { field = x; option = a }))) w' → (T (part sets x a) → ⊥) → Between rules first n sets pairs w'
+    → Same (less_number w (probe_number (record { field = x; option = a }))) w' → (T (part sets x a) → ⊥) → Between rules first n sets pairs w'
 between_skip rules first n sets pairs w w' x a b l taken gone = record {
   fields = b.fields;
   long = b.long;
@@ -55,7 +55,7 @@ between_skip rules first n sets pairs w w' x a b l taken gone = record {
 
 -- THE PROBE OF AN OPTION THAT STANDS
 module _ (rules : List Rule) (first : List ℕ) (r : Row) (sets pairs trial : List ℕ) (w w₁ : Waiting) (b : Between rules first r.fields sets pairs w) (at : InTable r pairs)
-    (taken : Same (less-number w (probe_number (record { field = r.field; option = r.option }))) w₁) (kept : T (part sets r.field r.option))
+    (taken : Same (less_number w (probe_number (record { field = r.field; option = r.option }))) w₁) (kept : T (part sets r.field r.option))
     (long : length trial ≡ r.fields) (copied : (y : ℕ) → y < r.fields → get_or trial y 0 ≡ row_word r pairs y) where
   abbrev x : ℕ
   x = r.field
@@ -196,7 +196,7 @@ pub beyond_then : (n : ℕ) (words words₁ words₂ : List ℕ) → StayBeyond 
 beyond_then n words words₁ words₂ p q = record { beyond = q.beyond ∙ p.beyond; long = q.long ∙ p.long }
 
 -- what waits once one was taken waited before
-pub only_after : (w w' : Waiting) (n m : ℕ) → Same (less-number w n) w' → ((k : ℕ) → w k ≡ true → k < m) → (k : ℕ) → w' k ≡ true → k < m
+pub only_after : (w w' : Waiting) (n m : ℕ) → Same (less_number w n) w' → ((k : ℕ) → w k ≡ true → k < m) → (k : ℕ) → w' k ≡ true → k < m
 only_after w w' n m taken only k h = only k (yes_T (w k) (T_right (not (eqb k n)) _ (T_yes _ (sym (taken k) ∙ h))))
 
 pub still_room : (n m : ℕ) (words words' : List ℕ) → m ≡ n → StayBeyond n words words' → Room n words → Room m words'

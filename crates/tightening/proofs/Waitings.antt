@@ -5,7 +5,7 @@ use Rattle.network.specs.Network.{has}
 use Rattle.network.proofs.Truth.{yes_T, T_yes, T_no, and_T, T_left, T_right}
 use Rattle.network.proofs.Bits.{has_less}
 use Rattle.agenda.specs.Waiting.{Waiting, Same, without, Nothing}
-use Rattle.agenda.specs.Jobs.{probe_number, probe_fits, put_job_lem}
+use Rattle.agenda.specs.Jobs.{probe_number, probe_fits, put_job}
 use Rattle.agenda.specs.declared.job.Probe.{Probe}
 use Rattle.tightening.specs.Probes.{probes_of, PutOn}
 
@@ -20,7 +20,7 @@ or_on true b e = refl
 or_on false b e = e
 
 -- one probe of an option of a field
-module _ (w w' : Waiting) (probe : Probe) (field : probe.field < 16) (option : probe.option < 32) (waiting : Same (put_job_lem w (probe_fits probe) (probe_number probe)) w') where
+module _ (w w' : Waiting) (probe : Probe) (field : probe.field < 16) (option : probe.option < 32) (waiting : Same (put_job w (probe_fits probe) (probe_number probe)) w') where
   fits : probe_fits probe ≡ true
   fits = ap (λ t. t && ltb probe.option 32) (lt-ltb probe.field 16 field) ∙ lt-ltb probe.option 32 option
 

@@ -6,7 +6,7 @@ use Rattle.network.specs.Network.{field_limit, Rule, part}
 use Rattle.books.specs.Pairs.{pairs_of}
 use Rattle.propagation.specs.Progress.{Filled}
 use Rattle.propagation.specs.Refusals.{opening_refusal}
-use Rattle.tightening.specs.Rows.{words_a_field_lem}
+use Rattle.tightening.specs.Rows.{words_a_field}
 use Rattle.tightening.specs.Start.{StayBeyond}
 use Rattle.tightening.specs.Tightening.{Tightest, TightWipedOut}
 use Rattle.tightening.specs.declared.tighten.Untightened.{Untightened}
@@ -17,7 +17,7 @@ abbrev pub tighten_refusal : List Rule → (sets pairs : List ℕ) → Option En
 tighten_refusal rules sets pairs =
     let n = length sets in
     cond (n == 0 || nat_lt field_limit n) (Some FieldCount)
-    (cond (nat_lt (length pairs) (n * words_a_field_lem)) (Some ShortBuffer)
+    (cond (nat_lt (length pairs) (n * words_a_field)) (Some ShortBuffer)
     (opening_refusal rules sets))
 
 -- done: the sets and the first pair words are exactly the largest strongly dual-consistent part, in which no field is empty; words beyond stay
@@ -32,7 +32,7 @@ pub record Tightened (rules : List Rule) (sets pairs sets' pairs' : List ℕ) : 
 pub record NotTightened (rules : List Rule) (sets pairs sets' pairs' : List ℕ) : Type 0 where
   pub same : sets' ≡ sets
   pub wiped_out : TightWipedOut rules sets
-  pub none : (i : ℕ) → i < length sets * words_a_field_lem → slice_index pairs' i ≡ 0
+  pub none : (i : ℕ) → i < length sets * words_a_field → slice_index pairs' i ≡ 0
   pub rest : StayBeyond (length sets) pairs pairs'
 
 -- nothing changed

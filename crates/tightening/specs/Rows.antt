@@ -6,15 +6,15 @@ use Rattle.propagation.specs.Strikes.{options}
 use Rattle.tightening.specs.declared.rows.Row.{Row}
 
 -- how many pair words an option of a field has, times the options of a field
-abbrev pub words_a_field_lem : ℕ
-words_a_field_lem = 512
+abbrev pub words_a_field : ℕ
+words_a_field = 512
 
 -- the row is that of an option of one of the fields, and the words are enough for all of them
 pub record InTable (row : Row) (words : List ℕ) : Type 0 where
   pub few : row.fields ≤ field_limit
   pub field : row.field < row.fields
   pub option : row.option < option_limit
-  pub room : row.fields * words_a_field_lem ≤ length words
+  pub room : row.fields * words_a_field ≤ length words
 
 -- the pairs that a row's table stands for
 abbrev pub pairs_in : Row → List ℕ → Pairs
@@ -36,7 +36,7 @@ less_toward q x a y passes u b v c =
 -- the first words now stand for the pairs q; the words beyond stay, and no option comes back
 pub record Leaves (n : ℕ) (words words' : List ℕ) (q : Pairs) : Type 0 where
   pub pairs : (x a y b : ℕ) → pairs_of n words' x a y b ≡ q x a y b
-  pub beyond : drop (n * words_a_field_lem) words' ≡ drop (n * words_a_field_lem) words
+  pub beyond : drop (n * words_a_field) words' ≡ drop (n * words_a_field) words
   pub long : length words' ≡ length words
   pub fewer : options words' ≤ options words
 

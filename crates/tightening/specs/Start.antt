@@ -2,7 +2,7 @@
 use Rattle.std.specs.Prelude.{◌≡◌, ℕ, ◌*◌, ◌/◌, ◌%◌, ◌≤◌, cond, not, ◌&&◌, T, List, length, drop, ◌==◌, slice_index}
 use Rattle.network.specs.Network.{option_limit, field_limit, Rule, part}
 use Rattle.books.specs.Pairs.{pairs_of}
-use Rattle.tightening.specs.Rows.{words_a_field_lem}
+use Rattle.tightening.specs.Rows.{words_a_field}
 use Rattle.tightening.specs.Tightening.{Stands}
 
 -- the word of option a of field x towards field y before any rule is looked at: the options of y, if the fields differ and x has a
@@ -20,9 +20,9 @@ pub record Standing (rules : List Rule) (sets words : List ℕ) : Type 0 where
 
 -- the words are enough for the pairs of n fields
 abbrev pub Room : ℕ → List ℕ → Type 0
-Room n words = n * words_a_field_lem ≤ length words
+Room n words = n * words_a_field ≤ length words
 
 -- the words beyond those of n fields stay
 pub record StayBeyond (n : ℕ) (words words' : List ℕ) : Type 0 where
-  pub beyond : drop (n * words_a_field_lem) words' ≡ drop (n * words_a_field_lem) words
+  pub beyond : drop (n * words_a_field) words' ≡ drop (n * words_a_field) words
   pub long : length words' ≡ length words

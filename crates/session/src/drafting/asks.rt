@@ -5,7 +5,7 @@ ghost use Rattle.network.specs.Network.{words};
 ghost use Rattle.propagation.specs.Opening.{Accepted};
 ghost use Rattle.draft.specs.Draft.{opened};
 ghost use Rattle.draft.specs.View.{view};
-ghost use Rattle.session.specs.Serving.{call_of_lem, Asked, drafting as open-draft};
+ghost use Rattle.session.specs.Serving.{call_of, Asked, drafting as open-draft};
 ghost use Rattle.session.specs.Rules.{tables_of, formulas_of, meant};
 
 use crate::calls::{call_of, reply};
@@ -58,7 +58,7 @@ impl<'a> Drafting<'a> {
     pub fn ask(&mut self, frame: Frame) -> Result<Answer, ProgramFault>
         requires { is_some self.old.memory ≡ false }
         ensures memory { is_some self.new.memory ≡ false }
-        ensures asked { Asked (meant self.old.draft.book) (view self.old.draft) (call_of_lem frame) result (open-draft (meant self.new.draft.book) (view self.new.draft)) }
+        ensures asked { Asked (meant self.old.draft.book) (view self.old.draft) (call_of frame) result (open-draft (meant self.new.draft.book) (view self.new.draft)) }
     {
         let Some(call) = call_of(frame) else {
             return Err(FrameFault::Misplaced.into());

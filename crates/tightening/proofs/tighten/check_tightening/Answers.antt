@@ -5,7 +5,7 @@ use Rattle.network.specs.Network.{words, field_limit}
 use Rattle.network.specs.declared.options.OptionSet.{OptionSet}
 use Rattle.network.proofs.Words.{length_words}
 use Rattle.propagation.specs.Refusals.{answer}
-use Rattle.tightening.specs.Rows.{words_a_field_lem}
+use Rattle.tightening.specs.Rows.{words_a_field}
 use Rattle.tightening.proofs.Finishing.{both_hold}
 use Rattle.tightening.proofs.tighten.check_tightening.Goals as goal
 use Rattle.tightening.proofs.tighten.check_tightening.Goals.{then-fields-eq0-via-then-fields-eq0, then-fields-eq0-via-else-fields-eq0+then-fields}
@@ -32,7 +32,7 @@ returns-then-pairs-fields g c =
     let sets = c.args.sets.now in
     let pairs = c.args.pairs.now in
     let fits = count_fits sets c.if-fields-eq0.false (omega (arith, c.if-fields.false)) in
-    let short : ltb (length (words pairs)) (length (words sets) * words_a_field_lem) ≡ true = lt-ltb _ _ (omega (arith, length_words sets, length_words pairs, c.if-pairs-fields.true)) in
+    let short : ltb (length (words pairs)) (length (words sets) * words_a_field) ≡ true = lt-ltb _ _ (omega (arith, length_words sets, length_words pairs, c.if-pairs-fields.true)) in
     record { answer = sym (ap answer (cond-false _ (Some FieldCount) _ fits ∙ cond-true _ (Some ShortBuffer) _ short)); accepted = tt }
 
 pub returns : goal.returns
@@ -41,7 +41,7 @@ returns g c =
     let sets = c.args.sets.now in
     let pairs = c.args.pairs.now in
     let fits = count_fits sets c.if-fields-eq0.false (omega (arith, c.if-fields.false)) in
-    let enough : ltb (length (words pairs)) (length (words sets) * words_a_field_lem) ≡ false = le-ltb _ _ (omega (arith, length_words sets, length_words pairs, c.if-pairs-fields.false)) in
+    let enough : ltb (length (words pairs)) (length (words sets) * words_a_field) ≡ false = le-ltb _ _ (omega (arith, length_words sets, length_words pairs, c.if-pairs-fields.false)) in
     record {
       answer = c.check_opening.ensures.answer ∙ sym (ap answer (cond-false _ (Some FieldCount) _ fits ∙ cond-false _ (Some ShortBuffer) _ enough));
       accepted = both_hold _ _ _ c.check_opening.result c.check_opening.ensures.accepted (omega (arith, length_words pairs, c.if-pairs-fields.false));

@@ -1,7 +1,7 @@
 use Rattle.std.proofs.Common.{◌≡◌, Some, sym, ap, ◌∙◌, subst}
 use Rattle.draft.specs.View.{view}
 use Rattle.session.specs.Rules.{meant}
-use Rattle.session.specs.Serving.{call_of_lem, Asked, Called, drafting}
+use Rattle.session.specs.Serving.{call_of, Asked, Called, drafting}
 use Rattle.session.proofs.Reaching.{reached_next}
 use Rattle.session.proofs.drafting.Drafting.ask.Goals as goal
 
@@ -23,7 +23,7 @@ returns c =
     let told = c.perform-answer.ensures in
     let rules = meant self.draft.book in
     let leaves = drafting (meant after.book) (view after) in
-    let asks : Some c.in-Some.call ≡ call_of_lem c.args.frame = sym c.in-Some.is ∙ c.call_of.ensures in
+    let asks : Some c.in-Some.call ≡ call_of c.args.frame = sym c.in-Some.is ∙ c.call_of.ensures in
     let called : Called rules (view self.draft) c.in-Some.call c.reply.result leaves =
     record {
       answer = c.perform-answer.result;
