@@ -4,7 +4,7 @@ use Rattle.network.specs.Network.{rule_limit, field_limit, option_limit}
 use Rattle.network.specs.declared.rules.Side.{Side}
 use Rattle.network.specs.declared.rules.Side.TheVariants.{Left, Right}
 use Rattle.agenda.specs.Waiting.{Waiting, with_one, Taken}
-use Rattle.agenda.specs.declared.job.Arc.{Arc}
+use Rattle.network.specs.declared.rules.Arc.{Arc}
 use Rattle.agenda.specs.declared.job.Probe.{Probe}
 
 -- the two arcs of rule r have the numbers 2 r, for the left side, and 2 r + 1

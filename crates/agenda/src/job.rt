@@ -7,7 +7,7 @@ ghost use Rattle.std.proofs.Common.{rules};
 
 use crate::agenda::Agenda;
 use network::options::OPTIONS;
-use network::rules::{FIELDS, RULES, Side};
+use network::rules::{Arc, FIELDS, RULES, Side};
 
 // A kind of job: of work that can wait on an agenda. Every number below the kind's limit stands for one job, whose
 // number it is, and every job that fits the kind has such a number.
@@ -41,13 +41,6 @@ pub trait Job: Sized {
     ghost back: { (j : Self) → fits j ≡ true → job (number j) ≡ j };
 
     ghost there: { (k : ℕ) → k < limit → (fits (job k) ≡ true) × (number (job k) ≡ k) };
-}
-
-// An arc: a rule, and the side of it whose field is to be revised.
-#[derive(Clone, Copy, PartialEq, Eq, Debug)]
-pub struct Arc {
-    pub rule: u8,
-    pub side: Side,
 }
 
 impl Job for Arc {

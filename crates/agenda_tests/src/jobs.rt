@@ -2,9 +2,9 @@
 
 use agenda::agenda::Agenda;
 use agenda::first::FirstCome;
-use agenda::job::{Arc, Job, Probe, put_job, take_job};
+use agenda::job::{Job, Probe, put_job, take_job};
 use agenda::lowest::LowestUrgency;
-use network::rules::Side;
+use network::rules::{Arc, Side};
 use std::process::Abort;
 
 // All arcs there are, and no others, go through an agenda.

@@ -18,7 +18,7 @@ fn rule(kind: Kind, difference: i8) -> FormulaRule {
 }
 
 fn all() -> OptionSet {
-    OptionSet::from_word(u32::MAX)
+    OptionSet::from(u32::MAX)
 }
 
 #[test]
@@ -79,7 +79,7 @@ fn masks_and_a_plain_scan_agree(rt: HostRuntime) {
         Kind::Apart,
         Kind::Unknown,
     ];
-    let set = OptionSet::from_word(0x8001_0220);
+    let set = OptionSet::from(0x8001_0220);
     for kind in kinds {
         for number in [-128, -32, -31, -1, 0, 1, 31, 32, 127] {
             let rules = [rule(kind, number)];
@@ -132,11 +132,11 @@ fn tables_and_pair_words_cut_short(rt: HostRuntime) {
     assert_eq!(rt; table.partner(1, Side::Left, 1, all()), Some(3));
     assert_eq!(rt; table.partner(1, Side::Left, 2, all()), None);
     assert_eq!(rt;
-        table.partner(1, Side::Right, 3, OptionSet::from_word(6)),
+        table.partner(1, Side::Right, 3, OptionSet::from(6)),
         Some(1)
     );
     assert_eq!(rt;
-        table.partner(1, Side::Right, 3, OptionSet::from_word(4)),
+        table.partner(1, Side::Right, 3, OptionSet::from(4)),
         None
     );
 
@@ -171,7 +171,7 @@ fn layers_over_books(rt: HostRuntime) {
     assert_eq!(rt; book.count(), 2);
     assert_eq!(rt; book.partner(1, Side::Left, 0, all()), Some(1));
     assert_eq!(rt;
-        book.partner(1, Side::Left, 0, OptionSet::from_word(4)),
+        book.partner(1, Side::Left, 0, OptionSet::from(4)),
         Some(2)
     );
     // the residue is told, though a lower option would do

@@ -9,7 +9,7 @@ use network::rules::FormulaRule;
 use std::test::Fail;
 
 fn set(word: u32) -> OptionSet {
-    OptionSet::from_word(word)
+    OptionSet::from(word)
 }
 
 // 64 decisions can be in force and no more; taken back one by one, they leave what was opened.

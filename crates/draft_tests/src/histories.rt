@@ -83,7 +83,7 @@ fn rules() -> [FormulaRule; 7] {
 }
 
 fn opening() -> [OptionSet; FIELDS] {
-    [OptionSet::from_word(0x0FFF); FIELDS]
+    [OptionSet::from(0x0FFF); FIELDS]
 }
 
 // The largest arc-consistent part of the opening sets under the decisions in force.
@@ -194,9 +194,9 @@ fn balances_over_formula_rules(rt: HostRuntime) -> Result<(), Fail> {
 
 // The rows of a table rule that allows all pairs of two different options.
 fn unequal_rows() -> [OptionSet; 32] {
-    let mut rows = [OptionSet::from_word(u32::MAX); 32];
+    let mut rows = [OptionSet::from(u32::MAX); 32];
     for option in 0..32u8 {
-        rows[usize::from(option)] = OptionSet::from_word(u32::MAX).without(option);
+        rows[usize::from(option)] = OptionSet::from(u32::MAX).without(option);
     }
     rows
 }

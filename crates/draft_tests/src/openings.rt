@@ -32,7 +32,7 @@ fn first_shown(
 
 #[test]
 fn accepts_16_fields_and_128_rules(rt: HostRuntime) {
-    let set = OptionSet::from_word(7);
+    let set = OptionSet::from(7);
     let heap = rt.alloc();
     let refused = Some(Err(EngineFault::NotOpened));
     assert_eq!(rt;
@@ -50,7 +50,7 @@ fn accepts_16_fields_and_128_rules(rt: HostRuntime) {
 #[test]
 fn refuses_every_call_on_a_refused_opening(rt: HostRuntime) -> Result<(), Fail> {
     let rules = [rule(0, 1)];
-    let sets = [OptionSet::from_word(7)];
+    let sets = [OptionSet::from(7)];
     let Ok(mut draft) = Draft::open(
         rt.alloc(),
         &sets,

@@ -30,7 +30,7 @@ impl Answer {
         match self {
             Answer::Done => write_line(&[0x80], line),
             Answer::Shown { field, set } => {
-                let [s3, s2, s1, s0] = set.word().to_be_bytes();
+                let [s3, s2, s1, s0] = u32::from(set).to_be_bytes();
                 write_line(&[0x81, field, s3, s2, s1, s0], line)
             }
             Answer::Settled { struck, standing } => {

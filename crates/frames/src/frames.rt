@@ -64,7 +64,7 @@ pub fn decode(bytes: &[u8]) -> Result<Frame, FrameFault>
     match bytes {
         [0x01, field, s3, s2, s1, s0] => Ok(Frame::EnterField {
             field: *field,
-            set: OptionSet::from_word(u32::from_be_bytes([*s3, *s2, *s1, *s0])),
+            set: OptionSet::from(u32::from_be_bytes([*s3, *s2, *s1, *s0])),
         }),
         [0x02, left, right] => Ok(Frame::StartTable {
             left: *left,
@@ -72,7 +72,7 @@ pub fn decode(bytes: &[u8]) -> Result<Frame, FrameFault>
         }),
         [0x03, option, s3, s2, s1, s0] => Ok(Frame::SetRow {
             option: *option,
-            set: OptionSet::from_word(u32::from_be_bytes([*s3, *s2, *s1, *s0])),
+            set: OptionSet::from(u32::from_be_bytes([*s3, *s2, *s1, *s0])),
         }),
         [0x04, left, right, kind, difference] => Ok(Frame::EnterFormula {
             left: *left,

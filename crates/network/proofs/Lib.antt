@@ -2,3 +2,4 @@ pub mod Truth
 pub mod Bits
 pub mod Masks
 pub mod Words
+pub mod Walks

@@ -1,5 +1,5 @@
 -- Sets of options, rules between two fields, and the largest arc-consistent part.
-use Rattle.std.specs.Prelude.{◌≡◌, ℕ, ◌/◌, ◌%◌, ◌^◌, ◌<◌, Bool, false, T, List, map, length, ◌==◌, slice_index, slice_index_or}
+use Rattle.std.specs.Prelude.{◌≡◌, ℕ, ◌/◌, ◌%◌, ◌^◌, ◌<◌, Bool, false, T, List, map, length, ◌||◌, ◌==◌, nat_le, slice_index, slice_index_or}
 use Rattle.network.specs.declared.options.OptionSet.{OptionSet}
 
 -- how many options a field can have; they are numbered from 0
@@ -17,6 +17,10 @@ rule_limit = 128
 -- stands for a field where there is none
 abbrev pub no_field : ℕ
 no_field = 255
+
+-- one of two ends is not among n fields, or they are one
+abbrev pub no_fields : ℕ → ℕ → ℕ → Bool
+no_fields n left right = nat_le n left || (nat_le n right || left == right)
 
 -- whether option a is in the set w: bit a of the word, counted from the lowest
 abbrev pub has : ℕ → ℕ → Bool

@@ -1,5 +1,5 @@
 -- What the operations on sets of options give, said of their words.
-use Rattle.std.specs.Prelude.{◌≡◌, ℕ, ◌+◌, ◌-◌, ◌*◌, ◌/◌, ◌%◌, ◌^◌, ◌<◌, false, cond, T, Some, None, Option, ◌==◌, nat_lt}
+use Rattle.std.specs.Prelude.{◌≡◌, ℕ, ◌+◌, ◌-◌, ◌*◌, ◌/◌, ◌%◌, ◌^◌, ◌<◌, Bool, true, false, cond, T, Some, None, Option, ◌==◌, nat_lt}
 use Rattle.std.specs.Int.Count.{count_trailing_zeros}
 use Rattle.network.specs.Network.{option_limit, has}
 
@@ -35,3 +35,8 @@ Lowest w None = w ≡ 0
 abbrev pub rest_after : ℕ → Option ℕ → ℕ
 rest_after w (Some a) = w - 2 ^ a
 rest_after w None = 0
+
+-- an option of w that passes, while those of w below it do not; there is none only where no option of w passes
+abbrev pub FirstPassing : (ℕ → Bool → Type 0) → ℕ → Option ℕ → Type 0
+FirstPassing answers w (Some a) = T (has w a) × (answers a true × ((b : ℕ) → b < a → T (has w b) → answers b false))
+FirstPassing answers w None = (b : ℕ) → T (has w b) → answers b false

@@ -2,7 +2,7 @@
 
 ghost use Rattle.std.specs.Prelude.{◌≡◌, bit_and, bit_or, count_ones, nat_eq};
 ghost use Rattle.network.specs.Network.{has};
-ghost use Rattle.network.specs.Sets.{alone, set_without, set_with, set_below, set_from, lowest_of, Lowest, rest_after};
+ghost use Rattle.network.specs.Sets.{alone, set_without, set_with, set_below, set_from, lowest_of, Lowest, rest_after, FirstPassing};
 
 // How many options a field can have; they are numbered from 0.
 pub const OPTIONS: u8 = 32;
@@ -14,21 +14,25 @@ pub struct OptionSet {
     word: u32,
 }
 
-impl OptionSet {
-    // The set that a word stands for.
-    pub fn from_word(word: u32) -> OptionSet
-        ensures { result.word ≡ word }
-    {
+// The set that a word stands for.
+impl From<u32> for OptionSet {
+    ghost from_gives = { λ word r. r.word ≡ word };
+
+    fn from(word: u32) -> OptionSet {
         Self { word }
     }
+}
 
-    // The word that stands for the set.
-    pub fn word(self) -> u32
-        ensures { result ≡ self.word }
-    {
-        self.word
+// The word that stands for a set.
+impl From<OptionSet> for u32 {
+    ghost from_gives = { λ set r. r ≡ set.word };
+
+    fn from(set: OptionSet) -> u32 {
+        set.word
     }
+}
 
+impl OptionSet {
     pub fn empty() -> OptionSet
         ensures { result.word ≡ 0 }
     {
@@ -133,5 +137,19 @@ impl OptionSet {
         let lowest = self.lowest()?;
         *self = self.without(lowest);
         Some(lowest)
+    }
+
+    // The lowest option of the set for which the test answers yes; it is put to the options by rising number.
+    pub fn find<F: Fn(u8) -> bool>(self, test: F) -> Option<u8>
+        requires { F.IsAlwaysCallable test }
+        ensures { FirstPassing (λ a yes. F.post test a yes) self.word result }
+    {
+        let mut waiting = self;
+        while let Some(option) = waiting.take_lowest() {
+            if test(option) {
+                return Some(option);
+            }
+        }
+        None
     }
 }

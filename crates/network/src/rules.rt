@@ -2,7 +2,7 @@
 
 ghost use Rattle.std.specs.Prelude.{◌≡◌, ◌&&◌, nat_lt};
 ghost use Rattle.network.specs.Kinds.{kind_of};
-ghost use Rattle.network.specs.Network.{no_field};
+ghost use Rattle.network.specs.Network.{no_field, no_fields};
 ghost use Rattle.network.specs.Sides.{opposite};
 
 // How many fields there can be; they are numbered from 0.
@@ -11,10 +11,11 @@ pub const FIELDS: u8 = 16;
 // How many rules an opening can have.
 pub const RULES: u8 = 128;
 
-// Stands for any number of rules that is too high.
+// Stands for any number of rules that is too high. It stays a number: the answer to how many rules there are is fixed so.
 pub const TOO_MANY: u8 = RULES + 1;
 
-// Stands for a field where there is none.
+// Stands for a field where there is none. It stays a number: the answer to which ends a rule has is fixed so, and a
+// lent table may hold it.
 pub const NO_FIELD: u8 = 255;
 
 // One of the two ends of a rule.
@@ -32,6 +33,26 @@ impl Side {
         match self {
             Side::Left => Side::Right,
             Side::Right => Side::Left,
+        }
+    }
+}
+
+// An arc: a rule, and the side of it whose field is to be revised.
+#[derive(Clone, Copy, PartialEq, Eq, Debug)]
+pub struct Arc {
+    pub rule: u8,
+    pub side: Side,
+}
+
+impl Arc {
+    // The arc of the same rule from the other side.
+    pub fn across(self) -> Arc
+        ensures rule { result.rule ≡ self.rule }
+        ensures side { result.side ≡ opposite self.side }
+    {
+        Arc {
+            rule: self.rule,
+            side: self.side.across(),
         }
     }
 }
@@ -62,6 +83,13 @@ impl Ends {
     {
         self.left < NO_FIELD && self.right < NO_FIELD
     }
+
+    // Whether one of the ends is not among so many fields, or they are one.
+    pub fn are_unfit(self, fields: u8) -> bool
+        ensures { result ≡ no_fields fields self.left self.right }
+    {
+        self.left >= fields || self.right >= fields || self.left == self.right
+    }
 }
 
 // How a formula rule compares the difference of its two options, left less right, with its number D.
@@ -75,15 +103,15 @@ pub enum Kind {
     AtMost,
     // the options lie at least D apart
     Apart,
-    // any other number: allows no pair
+    // any other number: allows no pair; a lent record may have it, so it is a kind and not a missing one
     Unknown,
 }
 
-impl Kind {
-    // The kind that a number stands for.
-    pub fn of_number(number: u8) -> Kind
-        ensures { result ≡ kind_of number }
-    {
+// The kind that a number stands for.
+impl From<u8> for Kind {
+    ghost from_gives = { λ number r. r ≡ kind_of number };
+
+    fn from(number: u8) -> Kind {
         match number {
             0 => Kind::Equal,
             1 => Kind::Different,

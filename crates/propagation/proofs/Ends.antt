@@ -10,7 +10,7 @@ use Rattle.network.proofs.Truth.{T_no}
 use Rattle.network.proofs.Bits.{none_of_zero, some_bit}
 use Rattle.agenda.specs.Waiting.{Waiting, Same, Nothing, without}
 use Rattle.agenda.specs.Jobs.{arc_number}
-use Rattle.agenda.specs.declared.job.Arc.{Arc}
+use Rattle.network.specs.declared.rules.Arc.{Arc}
 use Rattle.agenda.proofs.Waits.{waits_le}
 use Rattle.propagation.specs.Strikes.{options}
 use Rattle.propagation.specs.Opening.{Accepted, Emptied, Blamed}

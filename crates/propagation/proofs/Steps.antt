@@ -7,7 +7,7 @@ use Rattle.network.specs.declared.rules.Side.{Side}
 use Rattle.network.specs.declared.rules.Side.TheVariants.{Left, Right}
 use Rattle.network.proofs.Truth.{and_T, T_left, T_right}
 use Rattle.network.proofs.Bits.{has_below, has_less}
-use Rattle.agenda.specs.declared.job.Arc.{Arc}
+use Rattle.network.specs.declared.rules.Arc.{Arc}
 use Rattle.books.specs.Reads.{Partner}
 use Rattle.propagation.specs.Strikes.{without, options, UnsupportedAt, Struck}
 use Rattle.propagation.specs.Arcs.{own, across, Supported, Sound, ArcAt}

@@ -6,7 +6,7 @@ use Rattle.network.specs.declared.rules.Side.{Side}
 use Rattle.network.specs.declared.rules.Side.TheVariants.{Left, Right}
 use Rattle.agenda.specs.Waiting.{Waiting}
 use Rattle.agenda.specs.Jobs.{arc_number}
-use Rattle.agenda.specs.declared.job.Arc.{Arc}
+use Rattle.network.specs.declared.rules.Arc.{Arc}
 
 -- the field on that side of a rule, and the field across
 abbrev pub own : List Rule → Side → ℕ → ℕ

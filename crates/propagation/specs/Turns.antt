@@ -3,7 +3,7 @@ use Rattle.std.specs.Prelude.{◌≡◌, ℕ, ◌+◌, ◌*◌, ◌<◌, ◌≤�
 use Rattle.network.specs.Network.{Rule, part}
 use Rattle.network.specs.declared.rules.Side.{Side}
 use Rattle.agenda.specs.Waiting.{Waiting, waits}
-use Rattle.agenda.specs.declared.job.Arc.{Arc}
+use Rattle.network.specs.declared.rules.Arc.{Arc}
 use Rattle.propagation.specs.Strikes.{options}
 use Rattle.propagation.specs.Arcs.{own, Sound, OnlyArcs, OthersOk, OthersBut}
 use Rattle.propagation.specs.Progress.{Filled}

@@ -7,10 +7,10 @@ ghost use Rattle.agenda.specs.Jobs.{arc_number, put_job};
 ghost use Rattle.propagation.specs.Arcs.{listed_own, listed_across, Listed, BetweenFields, OnlyBelow, AllBelow, Neighbours, Still};
 
 use agenda::agenda::Agenda;
-use agenda::job::{Arc, put_job};
+use agenda::job::put_job;
 use books::book::Book;
 use network::options::OptionSet;
-use network::rules::{Ends, Side};
+use network::rules::{Arc, Ends, Side};
 
 // Lists the ends of the book's rules, so that no rule is asked for them twice, and tells how many rules there are.
 pub fn list_ends<B: Book>(book: &B, ends: &mut [Ends]) -> usize

@@ -17,7 +17,7 @@ pub fn any_empty(sets: &[OptionSet]) -> bool
     ensures fit { result ≡ false → Fit (words sets.now) }
 {
     for set in sets {
-        if set.word() == 0 {
+        if u32::from(*set) == 0 {
             return true;
         }
     }

@@ -13,10 +13,10 @@ use crate::arcs::{arc_ends, list_ends, put_all, put_neighbours};
 use crate::record::{Strike, WipedOut};
 use crate::revise::revise;
 use agenda::agenda::Agenda;
-use agenda::job::{Arc, take_job};
+use agenda::job::take_job;
 use books::book::Book;
 use network::options::OptionSet;
-use network::rules::{Ends, RULES};
+use network::rules::{Arc, Ends, RULES};
 
 // Revises an arc that was taken from the agenda, and puts the arcs that this may have upset.
 fn turn<B: Book, W: Agenda>(

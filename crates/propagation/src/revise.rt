@@ -8,9 +8,9 @@ ghost use Rattle.propagation.specs.Progress.{Progress};
 ghost use Rattle.propagation.specs.declared.record.Cause.TheVariants.{Unsupported};
 
 use crate::record::{Cause, Strike};
-use agenda::job::Arc;
 use books::book::Book;
 use network::options::OptionSet;
+use network::rules::Arc;
 
 // Strikes an option that stands, for want of a partner across.
 fn strike(sets: &mut [OptionSet], strikes: &mut Vec<Strike>, arc: Arc, field: u8, option: u8)

@@ -9,7 +9,7 @@ use propagation::record::{Cause, Strike, WipedOut};
 use std::test::Fail;
 
 fn set(word: u32) -> OptionSet {
-    OptionSet::from_word(word)
+    OptionSet::from(word)
 }
 
 fn rule(left: u8, right: u8, kind: Kind, difference: i8) -> FormulaRule {

@@ -49,7 +49,7 @@ fn answers(rt: HostRuntime) {
     let mut line = [7u8; 14];
     let shown = Answer::Shown {
         field: 1,
-        set: OptionSet::from_word(0x8000_0006),
+        set: OptionSet::from(0x8000_0006),
     };
     assert_eq!(rt; shown.write(&mut line), Ok(13));
     for (place, byte) in b"810180000006\n".iter().enumerate() {

@@ -46,7 +46,7 @@ fn enter(catalogue: &mut Preparation, frame: Frame) -> Result<(), ProgramFault>
         } => catalogue.enter_formula(FormulaRule {
             left,
             right,
-            kind: Kind::of_number(kind),
+            kind: Kind::from(kind),
             difference,
         })?,
         _ => return Err(FrameFault::Misplaced.into()),

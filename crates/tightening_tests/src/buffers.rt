@@ -21,12 +21,12 @@ fn refusal(heap: Global, sets: &mut [OptionSet], pairs: &mut [OptionSet]) -> Opt
 }
 
 fn all() -> OptionSet {
-    OptionSet::from_word(u32::MAX)
+    OptionSet::from(u32::MAX)
 }
 
 // What stands in a buffer beforehand.
 fn mark() -> OptionSet {
-    OptionSet::from_word(0xA5A5)
+    OptionSet::from(0xA5A5)
 }
 
 // For one field 511 pair words are too few, and none is written.

@@ -39,9 +39,9 @@ fn is_wiped_out(
 // Two options in three fields that are all to differ: there is nothing to tighten to.
 #[test]
 fn three_fields_that_differ(rt: HostRuntime) -> Result<(), Fail> {
-    let two = OptionSet::from_word(3);
+    let two = OptionSet::from(3);
     let mut sets = [two; 3];
-    let mut pairs = [OptionSet::from_word(u32::MAX); 1537];
+    let mut pairs = [OptionSet::from(u32::MAX); 1537];
     let rules = [
         rule(0, 1, Kind::Different),
         rule(1, 2, Kind::Different),
@@ -54,16 +54,16 @@ fn three_fields_that_differ(rt: HostRuntime) -> Result<(), Fail> {
     for i in 0..1536usize {
         assert_eq!(rt; pairs[i], OptionSet::empty());
     }
-    assert_eq!(rt; pairs[1536], OptionSet::from_word(u32::MAX));
+    assert_eq!(rt; pairs[1536], OptionSet::from(u32::MAX));
     Ok(())
 }
 
 // Two options in three fields, like neighbours: every option stays, and the ends are paired alike.
 #[test]
 fn a_chain_of_like_options(rt: HostRuntime) -> Result<(), Fail> {
-    let two = OptionSet::from_word(3);
+    let two = OptionSet::from(3);
     let mut sets = [two; 3];
-    let mut pairs = [OptionSet::from_word(u32::MAX); 1537];
+    let mut pairs = [OptionSet::from(u32::MAX); 1537];
     let rules = [rule(0, 1, Kind::Equal), rule(1, 2, Kind::Equal)];
     assert!(rt; !is_wiped_out(rt.alloc(), &rules, &mut sets, &mut pairs)?);
     for set in sets {
@@ -76,14 +76,14 @@ fn a_chain_of_like_options(rt: HostRuntime) -> Result<(), Fail> {
     assert_eq!(rt; pairs[17], OptionSet::only(1));
     assert_eq!(rt; pairs[18], OptionSet::only(1));
     assert_eq!(rt; pairs[34], OptionSet::empty());
-    assert_eq!(rt; pairs[1536], OptionSet::from_word(u32::MAX));
+    assert_eq!(rt; pairs[1536], OptionSet::from(u32::MAX));
     Ok(())
 }
 
 // Two fields that are both to agree and to differ: no pair stands.
 #[test]
 fn two_fields_at_odds(rt: HostRuntime) -> Result<(), Fail> {
-    let mut sets = [OptionSet::from_word(3); 2];
+    let mut sets = [OptionSet::from(3); 2];
     let mut pairs = [OptionSet::empty(); 1024];
     let rules = [rule(0, 1, Kind::Equal), rule(0, 1, Kind::Different)];
     assert!(rt; is_wiped_out(rt.alloc(), &rules, &mut sets, &mut pairs)?);

@@ -51,7 +51,7 @@ fn all_filled(sets: &[OptionSet]) -> bool
     ensures fit { result ≡ true → Fit (words sets.now) }
 {
     for set in sets {
-        if set.word() == 0 {
+        if u32::from(*set) == 0 {
             return false;
         }
     }

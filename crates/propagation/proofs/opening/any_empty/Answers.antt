@@ -8,13 +8,13 @@ use Rattle.propagation.proofs.Searches.{any_here, any_next}
 use Rattle.propagation.proofs.Openings.{past_fits}
 use Rattle.propagation.proofs.opening.any_empty.Goals as goal
 
-pub returns-then-word-eq0 : goal.returns-then-word-eq0
-returns-then-word-eq0 c =
+pub returns-then-from-eq0 : goal.returns-then-from-eq0
+returns-then-from-eq0 c =
     let sets = c.args.sets.now in
     let i = c.loop-set.set-index in
     let lt : i < length (words sets) = omega (arith, length_words sets, c.loop-set-test.true) in
     record {
-      answer = any_here empty (words sets) i 0 lt (eq-eqb _ 0 (word_of sets i (record { word = 0 }) c.loop-set-test.true ∙ sym c.word.ensures ∙ c.if-word-eq0.true)) c.loop-set.invariant.0;
+      answer = any_here empty (words sets) i 0 lt (eq-eqb _ 0 (word_of sets i (record { word = 0 }) c.loop-set-test.true ∙ sym c.from.ensures ∙ c.if-from-eq0.true)) c.loop-set.invariant.0;
       fit = λ e. absurd (true≢false e);
     }
 
@@ -24,9 +24,9 @@ loop-set-preserved c =
     let i = c.loop-set.set-index in
     let lt : i < length (words sets) = omega (arith, length_words sets, c.loop-set-test.true) in
     let word = word_of sets i (record { word = 0 }) c.loop-set-test.true in
-    let fits : c.word.result < 2 ^ option_limit = search rules in
-    let told = c.word.ensures in (
-      any_next empty (words sets) i 0 lt (ne_eqb _ 0 (λ e. c.if-word-eq0.false (c.word.ensures ∙ sym word ∙ e))) c.loop-set.invariant.0,
+    let fits : c.from.result < 2 ^ option_limit = search rules in
+    let told = c.from.ensures in (
+      any_next empty (words sets) i 0 lt (ne_eqb _ 0 (λ e. c.if-from-eq0.false (c.from.ensures ∙ sym word ∙ e))) c.loop-set.invariant.0,
       below_more (λ x. get_or (words sets) x 0 < 2 ^ option_limit) i c.loop-set.invariant.1 (omega arith),
     )
 

@@ -2,7 +2,7 @@ use Rattle.std.proofs.Common.{◌≡◌, ℕ, ◌<◌, List, length, get_or, sym
 use Rattle.std.proofs.lemmas.Bool.{eqb-true, eqb-false}
 use Rattle.network.specs.Network.{Rule, words}
 use Rattle.network.specs.declared.rules.Ends.{Ends}
-use Rattle.agenda.specs.declared.job.Arc.{Arc}
+use Rattle.network.specs.declared.rules.Arc.{Arc}
 use Rattle.network.proofs.Words.{length_words, word_of}
 use Rattle.propagation.specs.Arcs.{own, across, listed_own, listed_across, Listed, BetweenFields, OnlyBelow, Neighbours}
 use Rattle.propagation.specs.Progress.{Filled}
