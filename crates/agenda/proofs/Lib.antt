@@ -1,6 +1,5 @@
 pub mod Takes
 pub mod Waits
-mod Masks
 mod Risings
 mod NumberSets
 mod Sequences

@@ -1,112 +1,97 @@
 -- Sets of numbers by the bits of their words.
-use Rattle.std.proofs.Common.{◌≡◌, ℕ, zero, suc, ◌+◌, ◌-◌, ◌*◌, ◌/◌, ◌%◌, ◌^◌, ◌<◌, Bool, true, false, not, ◌&&◌, ◌||◌, eqb, List, length, get_or, set, replicate, Some, None, sym, refl, ap, ◌∙◌, inl, inr, arith}
+use Rattle.std.proofs.Common.{◌≡◌, ◌≢◌, ℕ, ◌+◌, ◌-◌, ◌*◌, ◌/◌, ◌%◌, ◌^◌, ◌<◌, ◌≤◌, true, false, eqb, List, length, get_or, set, replicate, Some, None, ap, ◌∙◌, inl, inr, w64, arith}
 use lib.Bits.{bit_and, bit_or}
 use lib.Count.{count_trailing_zeros}
-use Rattle.std.proofs.lemmas.Bool.{cases_eq, cases_lt, both_ways, eq-eqb, ne_eqb}
-use Rattle.std.proofs.lemmas.List.{get_or-set_same, get_or-set_other, get_or_past}
-use Rattle.std.proofs.lemmas.Nat.{one_shl, pow_below}
+use Rattle.std.specs.Int.{bit_at}
+use Rattle.std.specs.List.{position, position_or_len}
+use Rattle.std.proofs.lemmas.Grind.{common_steps}
+use Rattle.std.proofs.lemmas.Bool.{cases_eq, cases_lt, eq-eqb}
+use Rattle.std.proofs.lemmas.Bool.Decides.{nat_tests}
+use Rattle.std.proofs.lemmas.List.{get_or-set_same, get_or-set_other, get_or_past, get_or-replicate}
+use Rattle.std.proofs.lemmas.List.Sums.{fails_before_first}
+use Rattle.std.proofs.lemmas.List.Quantifiers.{position-Some}
+use Rattle.std.proofs.lemmas.Nat.Bits.{bit_at-zero, bit_at-trailing_zeros, bit_at_set_same, bit_at_set_other, bit_at_clear_same, bit_at_clear_other}
 use Rattle.network.specs.Network.{has}
 use Rattle.agenda.specs.Waiting.{number_limit, Nothing, Same, with_one, without}
 use Rattle.agenda.specs.Sequence.{first_of, rising}
-use Rattle.agenda.specs.Numbered.{numbers}
+use Rattle.agenda.specs.Numbered.{numbers, any_bit}
 use Rattle.agenda.specs.declared.numbers.NumberSet.{NumberSet}
-use Rattle.agenda.proofs.Masks.{has_and, has_or, has_nothing, has_pow, has_not, trailing_none, trailing_some}
 use Rattle.agenda.proofs.Risings.{rising_none, rising_first}
 
 -- a word that is 0 holds no number
-pub numbers_none : (s : NumberSet) (k : ℕ) → get_or s.words (k / 64) 0 ≡ 0 → numbers s k ≡ false
+numbers_none : (s : NumberSet) (k : ℕ) → get_or s.words (k / 64) 0 ≡ 0 → numbers s k ≡ false
 unfolding numbers
-numbers_none s k e = ap (λ w. has w (k % 64)) e ∙ has_nothing (k % 64)
+numbers_none s k e = ap (λ w. has w (k % 64)) e ∙ ap (λ b. eqb b 1) (bit_at-zero (k % 64))
 
 -- no number past the last word
 pub numbers_within : (s : NumberSet) (k : ℕ) → length s.words ≡ 8 → numbers s k ≡ true → k < number_limit
-numbers_within s k size on =
-    elim (cases_lt k 512) [
-      | inl lt ↦ lt
-      | inr past ↦ absurd (both_ways (numbers s k) (numbers_none s k (get_or_past s.words (k / 64) 0 (omega arith))) on)
-    ]
-
-zeros : (n i : ℕ) → get_or {A = ℕ} (replicate n 0) i 0 ≡ 0
-zeros zero i = refl
-zeros (suc n) zero = refl
-zeros (suc n) (suc i) = zeros n i
+numbers_within s k size on = grind (arith, numbers_none s k, get_or_past s.words (k / 64) 0)
 
 pub numbers_new : (n : ℕ) → Nothing (numbers (record { words = replicate n 0 }))
-numbers_new n k = numbers_none (record { words = replicate n 0 }) k (zeros n (k / 64))
+numbers_new n k =
+    numbers_none (record { words = replicate n 0 }) k
+    (elim (cases_lt (k / 64) n) [ inl lt ↦ get_or-replicate n (k / 64) 0 0 lt | inr past ↦ get_or_past (replicate n 0) (k / 64) 0 (grind (arith, common_steps)) ])
 
-same_word : (k n : ℕ) → k / 64 ≡ n / 64 → eqb (k % 64) (n % 64) ≡ eqb k n
-same_word k n e =
-    elim (cases_eq k n) [
-      | inl s ↦ eq-eqb (k % 64) (n % 64) (omega arith) ∙ sym (eq-eqb k n s)
-      | inr ne ↦ ne_eqb (k % 64) (n % 64) (λ h. ne (omega arith)) ∙ sym (ne_eqb k n ne)
-    ]
-
--- the word of n is changed in the bit of n alone
-module _ (ws : List ℕ) (n v : ℕ) (within : n / 64 < length ws) (change : Bool → Bool → Bool)
-    (keeps : (b : Bool) → change false b ≡ b)
-    (bits : (a : ℕ) → a < 64 → has v a ≡ change (eqb a (n % 64)) (has (get_or ws (n / 64) 0) a)) where
-  numbers_change : (k : ℕ) → numbers (record { words = set ws (n / 64) v }) k ≡ change (eqb k n) (numbers (record { words = ws }) k)
+-- the word of n becomes v, which differs in the bit of n alone
+module _ (ws : List ℕ) (n v : ℕ) (within : n / 64 < length ws)
+    (same : (a : ℕ) → a < 64 → a ≢ n % 64 → bit_at v a ≡ bit_at (get_or ws (n / 64) 0) a) where
+  here : numbers (record { words = set ws (n / 64) v }) n ≡ eqb (bit_at v (n % 64)) 1
   unfolding numbers
-  numbers_change k =
+  here = ap (λ w. has w (n % 64)) (get_or-set_same ws (n / 64) v 0 within)
+
+  elsewhere : (k : ℕ) → k ≢ n → numbers (record { words = set ws (n / 64) v }) k ≡ numbers (record { words = ws }) k
+  unfolding numbers
+  elsewhere k other =
       elim (cases_eq (k / 64) (n / 64)) [
-        | inl e ↦
-            ap (λ w. has w (k % 64)) (ap (λ i. get_or (set ws (n / 64) v) i 0) e ∙ get_or-set_same ws (n / 64) v 0 within)
-            ∙ bits (k % 64) (omega arith)
-            ∙ ap (λ b. change b (has (get_or ws (n / 64) 0) (k % 64))) (same_word k n e)
-            ∙ ap (λ i. change (eqb k n) (has (get_or ws i 0) (k % 64))) (sym e)
-        | inr ne ↦
-            ap (λ w. has w (k % 64)) (get_or-set_other ws (n / 64) (k / 64) v 0 ne)
-            ∙ sym (keeps (has (get_or ws (k / 64) 0) (k % 64)))
-            ∙ ap (λ b. change b (has (get_or ws (k / 64) 0) (k % 64))) (sym (ne_eqb k n (λ e. ne (ap (λ j. j / 64) e))))
+        | inl e ↦ rw (e, get_or-set_same ws (n / 64) v 0 within) (ap (λ b. eqb b 1) (same (k % 64) (omega arith) (λ h. other (omega arith))))
+        | inr ne ↦ rw (get_or-set_other ws (n / 64) (k / 64) v 0 ne)
       ]
 
-or_swap : (a b : Bool) → (a || b) ≡ (b || a)
-or_swap true true = refl
-or_swap true false = refl
-or_swap false true = refl
-or_swap false false = refl
-
-and_swap : (a b : Bool) → (a && b) ≡ (b && a)
-and_swap true true = refl
-and_swap true false = refl
-and_swap false true = refl
-and_swap false false = refl
-
 module _ (ws : List ℕ) (n : ℕ) (within : n / 64 < length ws) where
-  bit : (1 * 2 ^ (n % 64)) % 2 ^ 64 ≡ 2 ^ (n % 64)
-  bit = one_shl (n % 64) 64 (omega arith)
-
   pub numbers_insert : Same (with_one (numbers (record { words = ws })) n)
       (numbers (record { words = set ws (n / 64) (bit_or (get_or ws (n / 64) 0) ((1 * 2 ^ (n % 64)) % 2 ^ 64)) }))
-  numbers_insert =
-      numbers_change ws n (bit_or (get_or ws (n / 64) 0) ((1 * 2 ^ (n % 64)) % 2 ^ 64)) within (λ e b. e || b) (λ b. refl)
-      (λ a h. ap (λ m. has (bit_or (get_or ws (n / 64) 0) m) a) bit ∙ has_or (get_or ws (n / 64) 0) (2 ^ (n % 64)) a ∙ ap (λ b. has (get_or ws (n / 64) 0) a || b) (has_pow (n % 64) a) ∙ or_swap (has (get_or ws (n / 64) 0) a) (eqb a (n % 64)))
+  numbers_insert k =
+      let w : ℕ = get_or ws (n / 64) 0 in
+      let v : ℕ = bit_or w ((1 * 2 ^ (n % 64)) % 2 ^ 64) in
+      let others = λ (a : ℕ) (h : a < 64). bit_at_set_other w64 w (n % 64) (omega arith) a in
+      grind (arith, nat_tests, here ws n v within others, elsewhere ws n v within others k, bit_at_set_same w64 w (n % 64) (omega arith))
 
   pub numbers_remove : Same (without (numbers (record { words = ws })) n)
       (numbers (record { words = set ws (n / 64) (bit_and (get_or ws (n / 64) 0) (2 ^ 64 - 1 - (1 * 2 ^ (n % 64)) % 2 ^ 64)) }))
-  numbers_remove =
-      numbers_change ws n (bit_and (get_or ws (n / 64) 0) (2 ^ 64 - 1 - (1 * 2 ^ (n % 64)) % 2 ^ 64)) within (λ e b. not e && b) (λ b. refl)
-      (λ a h. ap (λ m. has (bit_and (get_or ws (n / 64) 0) (2 ^ 64 - 1 - m)) a) bit ∙ has_and (get_or ws (n / 64) 0) (2 ^ 64 - 1 - 2 ^ (n % 64)) a ∙ ap (λ b. has (get_or ws (n / 64) 0) a && b) (has_not 64 (2 ^ (n % 64)) a (pow_below (n % 64) 64 (omega arith)) h ∙ ap not (has_pow (n % 64) a)) ∙ and_swap (has (get_or ws (n / 64) 0) a) (not (eqb a (n % 64))))
+  numbers_remove k =
+      let w : ℕ = get_or ws (n / 64) 0 in
+      let v : ℕ = bit_and w (2 ^ 64 - 1 - (1 * 2 ^ (n % 64)) % 2 ^ 64) in
+      let others = bit_at_clear_other w64 w (n % 64) (omega arith) in
+      grind (arith, nat_tests, here ws n v within others, elsewhere ws n v within others k, bit_at_clear_same w64 w (n % 64) (omega arith))
 
--- no word but 0, no number
-pub numbers_lowest_none : (s : NumberSet) → ((j : ℕ) → j < 8 → get_or s.words j 0 ≡ 0) → first_of (rising (numbers s) number_limit) ≡ None
-numbers_lowest_none s none = ap first_of (rising_none (numbers s) 512 (λ k h. numbers_none s k (none (k / 64) (omega arith))))
+zero_word : (w : ℕ) → any_bit w ≡ false → w ≡ 0
+zero_word w e = grind (arith, common_steps)
 
--- the lowest bit of the first word that is not 0
-pub numbers_lowest : (s : NumberSet) (i : ℕ) → i < 8 → 0 < get_or s.words i 0 → get_or s.words i 0 < 2 ^ 64 →
-    ((j : ℕ) → j < i → get_or s.words j 0 ≡ 0) →
-    first_of (rising (numbers s) number_limit) ≡ Some (i * 64 + count_trailing_zeros 64 (get_or s.words i 0))
+-- where no word has a bit, no number
+pub lowest_none : (s : NumberSet) → length s.words ≡ 8 → position any_bit s.words ≡ None → first_of (rising (numbers s) number_limit) ≡ None
+lowest_none s size none =
+    let past : length s.words ≤ position_or_len any_bit s.words = grind (arith, common_steps) in
+    ap first_of (rising_none (numbers s) 512 (λ k h. numbers_none s k (zero_word (get_or s.words (k / 64) 0) (fails_before_first any_bit s.words (k / 64) 0 (omega arith)))))
+
+-- the lowest bit of the first word that has one
+pub lowest_some : (s : NumberSet) (i : ℕ) → length s.words ≡ 8 → position any_bit s.words ≡ Some i → get_or s.words i 0 < 2 ^ 64 →
+    (i * 64 + count_trailing_zeros 64 (get_or s.words i 0) < number_limit)
+    × (first_of (rising (numbers s) number_limit) ≡ Some (i * 64 + count_trailing_zeros 64 (get_or s.words i 0)))
 unfolding numbers
-numbers_lowest s i lt some fits none =
+lowest_some s i size at fits =
     let w : ℕ = get_or s.words i 0 in
     let t : ℕ = count_trailing_zeros 64 w in
-    let here = trailing_some 64 w fits some in
+    let first = position-Some any_bit s.words i 0 at in
+    let some : 0 < w = grind (arith, common_steps) in
+    let low = bit_at-trailing_zeros w64 w some fits in
     let n : ℕ = i * 64 + t in
-    let word : n / 64 ≡ i = omega (arith, here.0) in
-    let place : n % 64 ≡ t = omega (arith, here.0) in
-    rising_first (numbers s) n 512 (omega (arith, here.0))
-    (ap (λ j. has (get_or s.words j 0) (n % 64)) word ∙ ap (λ a. has w a) place ∙ here.1)
-    (λ k h. elim (cases_eq (k / 64) i) [
-      | inl e ↦ ap (λ j. has (get_or s.words j 0) (k % 64)) e ∙ trailing_none 64 w (k % 64) (omega (arith, here.0))
-      | inr ne ↦ ap (λ v. has v (k % 64)) (none (k / 64) (omega (arith, here.0))) ∙ has_nothing (k % 64)
-    ])
+    let word : n / 64 ≡ i = omega (arith, low.0) in
+    let place : n % 64 ≡ t = omega (arith, low.0) in
+    let lt : n < 512 = omega (arith, low.0, first.0) in (
+      lt,
+      rising_first (numbers s) n 512 lt (rw (word, place) (eq-eqb (bit_at w t) 1 low.1))
+          (λ k h. elim (cases_eq (k / 64) i) [
+            | inl e ↦ rw e (ap (λ b. eqb b 1) (low.2 (k % 64) (omega (arith, low.0))))
+            | inr ne ↦ numbers_none s k (zero_word (get_or s.words (k / 64) 0) (first.2 (k / 64) (omega (arith, low.0))))
+          ]),
+    )

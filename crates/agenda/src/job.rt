@@ -14,7 +14,7 @@ use network::rules::{Arc, FIELDS, RULES, Side};
 pub trait Job: Sized {
     const LIMIT: u16;
 
-    ghost limit: { ℕ };
+    ghost LIMIT: { ℕ };
 
     ghost number: { Self → ℕ };
 
@@ -22,31 +22,29 @@ pub trait Job: Sized {
 
     ghost fits: { Self → Bool };
 
-    // The constant above, which clauses know as `limit`.
-    fn limit_of() -> u16
-        ensures { result ≡ limit };
-
-    // The job's number, none if it does not fit the kind.
+    // The job's number, none if it does not fit the kind. An option says all that there is to a refusal: TryFrom would
+    // need an error type for the same.
     fn to_number(self) -> Option<u16>
         ensures { result ≡ (if fits self then Some (number self) else None) };
 
-    // The job that a number stands for, none from the limit on.
+    // The job that a number stands for, none from the limit on. Each kind tests the limit itself: with one test in the
+    // trait, each kind would have to say besides what it makes of numbers past its limit.
     fn of_number(n: u16) -> Option<Self>
-        ensures { result ≡ (if nat_lt n limit then Some (job n) else None) };
+        ensures { result ≡ (if nat_lt n LIMIT then Some (job n) else None) };
 
-    ghost limited: { limit ≤ number_limit };
+    ghost limited: { LIMIT ≤ number_limit };
 
-    ghost below: { (j : Self) → fits j ≡ true → number j < limit };
+    ghost below: { (j : Self) → fits j ≡ true → number j < LIMIT };
 
     ghost back: { (j : Self) → fits j ≡ true → job (number j) ≡ j };
 
-    ghost there: { (k : ℕ) → k < limit → (fits (job k) ≡ true) × (number (job k) ≡ k) };
+    ghost there: { (k : ℕ) → k < LIMIT → (fits (job k) ≡ true) × (number (job k) ≡ k) };
 }
 
 impl Job for Arc {
     const LIMIT: u16 = 256;
 
-    ghost limit = { 256 };
+    ghost LIMIT = { 256 };
 
     ghost number = { arc_number };
 
@@ -61,10 +59,6 @@ impl Job for Arc {
     ghost back = { Prim.search rules };
 
     ghost there = { Prim.search rules };
-
-    fn limit_of() -> u16 {
-        Self::LIMIT
-    }
 
     fn to_number(self) -> Option<u16> {
         if self.rule >= RULES {
@@ -97,7 +91,7 @@ pub struct Probe {
 impl Job for Probe {
     const LIMIT: u16 = 512;
 
-    ghost limit = { 512 };
+    ghost LIMIT = { 512 };
 
     ghost number = { probe_number };
 
@@ -112,10 +106,6 @@ impl Job for Probe {
     ghost back = { Prim.search rules };
 
     ghost there = { Prim.search rules };
-
-    fn limit_of() -> u16 {
-        Self::LIMIT
-    }
 
     fn to_number(self) -> Option<u16> {
         if self.field >= FIELDS || self.option >= OPTIONS {
@@ -139,19 +129,16 @@ pub fn put_job<J: Job, W: Agenda>(agenda: &mut W, job: J, urgency: u8) -> bool
     ensures answer { result ≡ J.Job.fits job }
     ensures waiting { Same (put_job (W.Agenda.waiting agenda.old) (J.Job.fits job) (J.Job.number job)) (W.Agenda.waiting agenda.new) }
 {
-    match job.to_number() {
-        Some(number) => agenda.put(number, urgency),
-        None => false,
-    }
+    let Some(number) = job.to_number() else {
+        return false;
+    };
+    agenda.put(number, urgency)
 }
 
 // Takes a job that waits, none if nothing waits. A number that stands for no job of the kind is taken off the agenda
 // too, and the answer is none.
 pub fn take_job<J: Job, W: Agenda>(agenda: &mut W) -> Option<J>
-    ensures taken { JobTaken J.Job.limit J.Job.fits J.Job.number (W.Agenda.waiting agenda.old) result (W.Agenda.waiting agenda.new) }
+    ensures taken { JobTaken J.Job.LIMIT J.Job.fits J.Job.number (W.Agenda.waiting agenda.old) result (W.Agenda.waiting agenda.new) }
 {
-    match agenda.take() {
-        Some(number) => J::of_number(number),
-        None => None,
-    }
+    J::of_number(agenda.take()?)
 }

@@ -11,4 +11,5 @@ pub mod agenda;
 pub mod first;
 pub mod job;
 pub mod lowest;
+mod number;
 mod numbers;

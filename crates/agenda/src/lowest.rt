@@ -16,6 +16,7 @@ const URGENCIES: usize = 256;
 
 // Lowest urgency first, ties to the lower number. For each urgency a bucket has the numbers that wait with it, and the
 // busy urgencies are those whose bucket is not empty: so a take looks at a few words and not at every number.
+// Fixed memory: no call on a draft allocates, so the tables are arrays and no maps of the library.
 #[derive(Drop)]
 pub struct LowestUrgency {
     urgencies: [Option<u8>; NUMBERS],

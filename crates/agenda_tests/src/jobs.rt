@@ -7,7 +7,8 @@ use agenda::lowest::LowestUrgency;
 use network::rules::{Arc, Side};
 use std::process::Abort;
 
-// All arcs there are, and no others, go through an agenda.
+// All arcs there are, and no others, go through an agenda. Probes have loops of their own below: one function for both
+// would take the jobs as an iterator, and would have to ask that it ends.
 fn arcs_pass<W: Agenda>(rt: &impl Abort, agenda: &mut W) {
     for rule in 0..128u8 {
         for side in [Side::Left, Side::Right] {
@@ -80,6 +81,6 @@ fn no_arc_above_the_limit(rt: HostRuntime) {
     let none: Option<Arc> = take_job(&mut agenda);
     assert_eq!(rt; none, None);
     assert_eq!(rt; agenda.take(), None);
-    assert_eq!(rt; <Arc as Job>::limit_of(), 256);
-    assert_eq!(rt; <Probe as Job>::limit_of(), 512);
+    assert_eq!(rt; <Arc as Job>::LIMIT, 256);
+    assert_eq!(rt; <Probe as Job>::LIMIT, 512);
 }

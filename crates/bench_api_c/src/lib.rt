@@ -7,9 +7,16 @@ ghost use Rattle.books.specs.Table.{table_rules};
 ghost use Rattle.propagation.specs.declared.record.WipedOut.{WipedOut};
 ghost use Rattle.propagation.specs.Progress.{SettledOn, WipedFrom};
 
+use bench_api::{SettleError, settle};
 use network::options::OptionSet;
 use network::rules::Ends;
 use std::alloc::Global;
+
+// What stands for a settle that was wiped out, and, with the refusal number added, for one that was refused; alone it
+// stands for want of memory.
+const WIPED_OUT: u32 = u32::MAX;
+
+const REFUSED: u32 = 1000;
 
 // Settles sets over table rules, and tells how many options it struck; 4294967295 stands for a settle that was wiped
 // out, and 1000 and the refusal number for one that was refused. Wiped out or refused, what the sets then hold is free.
@@ -23,5 +30,10 @@ pub extern "C" fn bugbiloja_settle<'a>(
     ensures settled { result < 1000 → SettledOn (table_rules ends.now (words rows.now)) (words sets.old) (words sets.new) }
     ensures wiped { result ≡ 4294967295 → (w : WipedOut) × WipedFrom (table_rules ends.now (words rows.now)) (words sets.old) w }
 {
-    bench_api::bugbiloja_settle(heap, sets, ends, rows)
+    match settle(heap, sets, ends, rows) {
+        Ok(struck) => struck,
+        Err(SettleError::Refused(fault)) => REFUSED + u32::from(fault.number()),
+        Err(SettleError::OutOfMemory) => REFUSED,
+        Err(SettleError::WipedOut(_)) => WIPED_OUT,
+    }
 }

@@ -1,13 +1,15 @@
 -- The rule that a number asks for.
-use Rattle.std.proofs.Common.{◌≡◌, ℕ, ◌-◌, ◌^◌, ◌<◌, ◌≤◌, Bool, false, ◌&&◌, T, ltb, ◌⊎◌, List, ◌++◌, map, length, get_or, sym, refl, ap, ◌∙◌, subst, ⊎_elim, arith, ltb→lt, lt→ltb}
+use Rattle.std.proofs.Common.{◌≡◌, ℕ, zero, suc, ◌-◌, ◌^◌, ◌<◌, ◌≤◌, Bool, false, ◌&&◌, T, ltb, List, [], ◌∷◌, ◌++◌, map, length, slice_get, None, sym, refl, ap, ◌∙◌, subst, ⊎_elim, arith, ltb→lt, lt→ltb}
+use Rattle.std.specs.Option.{option_map_or}
+use Rattle.std.proofs.Math.Bool.{and_comm}
 use Rattle.std.proofs.lemmas.Bool.{cond-true, cond-false, lt-ltb, le-ltb, cases_lt}
-use Rattle.std.proofs.lemmas.List.{length-map, get_or-map, get_or_past, get_or_append_left, get_or-append_right}
+use Rattle.std.proofs.lemmas.List.{get_or_past, get_or_append_left, get_or-append_right}
 use Rattle.network.specs.Network.{option_limit, rule_limit, no_field, Rule, rule_at, no_rule, has}
 use Rattle.network.specs.declared.rules.Side.{Side}
 use Rattle.network.specs.declared.rules.Side.TheVariants.{Left, Right}
 use Rattle.network.proofs.Truth.{no_T, T_no, and_T, T_left, T_right, same_test}
 use Rattle.network.proofs.Bits.{has_below}
-use Rattle.books.specs.Reads.{asked, permits, permits_on, allowed, allowed_on}
+use Rattle.books.specs.Reads.{asked, listed, permits, permits_on, allowed, allowed_on}
 
 -- one of the first 128
 pub asked_is : (rules : List Rule) (r : ℕ) → r < rule_limit → asked rules r ≡ rule_at rules r
@@ -23,13 +25,22 @@ pub asked_past : (rules : List Rule) (r : ℕ) → length rules ≤ r → asked 
 asked_past rules r h =
     ⊎_elim (λ l. asked_is rules r l ∙ get_or_past rules r no_rule h) (λ l. asked_high rules r l) (cases_lt r rule_limit)
 
--- a list of rules that are read off records
-pub asked_record : {X : Type 0} (f : X → Rule) (xs : List X) (r : ℕ) (d : X) → r < rule_limit → r < length xs → asked (map f xs) r ≡ f (get_or xs r d)
-asked_record f xs r d small h = asked_is (map f xs) r small ∙ get_or-map f xs r d no_rule h
+-- rules that are made of the entries of a list, each of one
+pub asked_made : {X : Type 0} (make : X → Rule) (rules : List Rule) (xs : List X) (r : ℕ) → rule_at rules r ≡ option_map_or make (slice_get xs r) no_rule
+    → asked rules r ≡ option_map_or make (listed xs r) no_rule
+asked_made make rules xs r e =
+    ⊎_elim
+    (λ l. asked_is rules r l ∙ e ∙ ap (λ o. option_map_or make o no_rule) (sym (cond-true (ltb r rule_limit) (slice_get xs r) None (lt-ltb r rule_limit l))))
+    (λ l. asked_high rules r l ∙ ap (λ o. option_map_or make o no_rule) (sym (cond-false (ltb r rule_limit) (slice_get xs r) None (le-ltb r rule_limit l))))
+    (cases_lt r rule_limit)
 
-pub asked_no_record : {X : Type 0} (f : X → Rule) (xs : List X) (r : ℕ) → (rule_limit ≤ r) ⊎ (length xs ≤ r) → asked (map f xs) r ≡ no_rule
-asked_no_record f xs r =
-    ⊎_elim (asked_high (map f xs) r) (λ h. asked_past (map f xs) r (let l = length-map xs f in omega arith))
+made_of_map : {X : Type 0} (make : X → Rule) (xs : List X) (r : ℕ) → rule_at (map make xs) r ≡ option_map_or make (slice_get xs r) no_rule
+made_of_map make [] r = refl
+made_of_map make (x ∷ xs) zero = refl
+made_of_map make (x ∷ xs) (suc r) = made_of_map make xs r
+
+pub asked_map : {X : Type 0} (make : X → Rule) (xs : List X) (r : ℕ) → asked (map make xs) r ≡ option_map_or make (listed xs r) no_rule
+asked_map make xs r = asked_made make (map make xs) xs r (made_of_map make xs r)
 
 -- what is allowed is read off the rule that is asked for
 pub allowed_by : (rules : List Rule) (r : ℕ) (rule : Rule) → asked rules r ≡ rule → (a b : ℕ) → allowed rules r a b ≡ permits rule a b
@@ -53,11 +64,15 @@ allows_on rule Right a b = rule.allows b a
 abbrev pub between_fields : Rule → Bool
 between_fields rule = ltb rule.left no_field && ltb rule.right no_field
 
+-- the same whatever the side
+permits_is : (rule : Rule) (side : Side) (a b : ℕ) → permits_on rule side a b ≡ (between_fields rule && ((ltb a option_limit && ltb b option_limit) && allows_on rule side a b))
+permits_is rule Left a b = refl
+permits_is rule Right a b = ap (λ x. between_fields rule && (x && rule.allows b a)) (and_comm (ltb b option_limit) (ltb a option_limit))
+
 pub permits_T : (rule : Rule) (side : Side) (a b : ℕ) → T (between_fields rule) → a < option_limit → b < option_limit → T (allows_on rule side a b) → T (permits_on rule side a b)
-permits_T rule Left a b f h l t =
-    and_T (between_fields rule) _ f (and_T (ltb a option_limit && ltb b option_limit) _ (and_T (ltb a option_limit) (ltb b option_limit) (lt→ltb a option_limit h) (lt→ltb b option_limit l)) t)
-permits_T rule Right a b f h l t =
-    and_T (between_fields rule) _ f (and_T (ltb b option_limit && ltb a option_limit) _ (and_T (ltb b option_limit) (ltb a option_limit) (lt→ltb b option_limit l) (lt→ltb a option_limit h)) t)
+permits_T rule side a b f h l t =
+    subst T (sym (permits_is rule side a b))
+    (and_T (between_fields rule) _ f (and_T (ltb a option_limit && ltb b option_limit) _ (and_T (ltb a option_limit) (ltb b option_limit) (lt→ltb a option_limit h) (lt→ltb b option_limit l)) t))
 
 -- what a permitted pair tells
 pub record Permitted (rule : Rule) (side : Side) (a b : ℕ) : Type 0 where
@@ -67,23 +82,15 @@ pub record Permitted (rule : Rule) (side : Side) (a b : ℕ) : Type 0 where
   pub pair : T (allows_on rule side a b)
 
 pub T_permits : (rule : Rule) (side : Side) (a b : ℕ) → T (permits_on rule side a b) → Permitted rule side a b
-T_permits rule Left a b t =
-    let rest = T_right (between_fields rule) _ t in
-    let options = T_left (ltb a option_limit && ltb b option_limit) (rule.allows a b) rest in
+T_permits rule side a b t =
+    let all = subst T (permits_is rule side a b) t in
+    let rest = T_right (between_fields rule) _ all in
+    let options = T_left (ltb a option_limit && ltb b option_limit) (allows_on rule side a b) rest in
     record {
-      fields = T_left (between_fields rule) _ t;
+      fields = T_left (between_fields rule) _ all;
       own = ltb→lt a option_limit (T_left (ltb a option_limit) (ltb b option_limit) options);
       other = ltb→lt b option_limit (T_right (ltb a option_limit) (ltb b option_limit) options);
-      pair = T_right (ltb a option_limit && ltb b option_limit) (rule.allows a b) rest;
-    }
-T_permits rule Right a b t =
-    let rest = T_right (between_fields rule) _ t in
-    let options = T_left (ltb b option_limit && ltb a option_limit) (rule.allows b a) rest in
-    record {
-      fields = T_left (between_fields rule) _ t;
-      own = ltb→lt a option_limit (T_right (ltb b option_limit) (ltb a option_limit) options);
-      other = ltb→lt b option_limit (T_left (ltb b option_limit) (ltb a option_limit) options);
-      pair = T_right (ltb b option_limit && ltb a option_limit) (rule.allows b a) rest;
+      pair = T_right (ltb a option_limit && ltb b option_limit) (allows_on rule side a b) rest;
     }
 
 -- a rule between fields permits what it allows of options that fields can have

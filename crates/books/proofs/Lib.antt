@@ -1,5 +1,6 @@
-pub mod Walks
+pub mod Found
 pub mod Asked
+pub mod Partners
 pub mod Differences
 pub mod Tables
 pub mod Pairing

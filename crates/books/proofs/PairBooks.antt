@@ -1,16 +1,19 @@
 -- The rules of a pair book, as it is asked for them.
-use Rattle.std.proofs.Common.{◌≡◌, ℕ, zero, suc, ◌-◌, ◌*◌, ◌/◌, ◌^◌, ◌<◌, ◌≤◌, Bool, true, false, ◌&&◌, T, ltb, List, get_or, Option, sym, refl, ap, ◌∙◌, subst, ⊎_elim, suc-mul, arith, ltb→lt, lt→ltb}
-use Rattle.std.proofs.lemmas.Bool.{cases_Bool, and_right, le-ltb}
+use Rattle.std.proofs.Common.{◌≡◌, ℕ, zero, suc, ◌-◌, ◌*◌, ◌/◌, ◌^◌, ◌<◌, ◌≤◌, Bool, ◌&&◌, T, ltb, List, get_or, Some, None, Option, sym, refl, ap, ◌∙◌, subst, ⊎_elim, suc-mul, arith, ltb→lt, lt→ltb}
+use Rattle.std.proofs.Math.Bool.{and_comm}
+use Rattle.std.proofs.lemmas.Bool.{cases_Bool}
+use Rattle.std.specs.Option.{option_map_or}
+use Rattle.network.specs.declared.rules.Ends.{Ends}
 use Rattle.network.specs.Network.{option_limit, field_limit, no_field, has, no_rule}
 use Rattle.network.specs.declared.rules.Side.{Side}
 use Rattle.network.specs.declared.rules.Side.TheVariants.{Left, Right}
 use Rattle.network.proofs.Truth.{yes_T, T_yes, and_T, T_left, T_right}
 use Rattle.network.proofs.Bits.{has_below}
-use Rattle.books.specs.Reads.{asked, permits, allowed_on, Found, Partner}
-use Rattle.books.specs.Pairs.{word_at, pairs_of, pair_rule, pair_rules, triangle, pair_at, both_orders}
-use Rattle.books.proofs.Asked.{asked_is, asked_past, allowed_on_by, allows_on, between_fields, permits_at, permits_out}
+use Rattle.books.specs.Reads.{asked, permits, permits_on, Found}
+use Rattle.books.specs.Pairs.{word_at, pairs_of, pair_rule, rule_between, pair_rules, triangle, pair_at, PairEnds, both_orders}
+use Rattle.books.proofs.Asked.{asked_is, asked_past, allows_on, between_fields, permits_at}
 use Rattle.books.proofs.Pairing.{rule_of, rule_is, rules_length, triangle_few, triangle_twice, ends_order, ends_below}
-use Rattle.books.proofs.Walks.{found_like}
+use Rattle.books.proofs.Found.{found_like}
 
 -- half of a square less one side
 pub half_square : (n : ℕ) → n * (n - 1) / 2 ≡ triangle n
@@ -25,18 +28,12 @@ pub pairs_at : (n : ℕ) (words : List ℕ) (x a y b : ℕ) → x < n → a < op
 pairs_at n words x a y b h k l =
     ap (λ g. g && has (get_or words (word_at x a y) 0) b) (yes_T (ltb x n && (ltb a option_limit && ltb y field_limit)) (and_T _ _ (lt→ltb x n h) (and_T _ _ (lt→ltb a option_limit k) (lt→ltb y field_limit l))))
 
-and_comm : (x y : Bool) → (x && y) ≡ (y && x)
-and_comm true true = refl
-and_comm true false = refl
-and_comm false true = refl
-and_comm false false = refl
-
 module _ (n : ℕ) (few : n ≤ field_limit) (words : List ℕ) where
-  pub pair_none : (r : ℕ) → triangle n ≤ r → asked (pair_rules n (pairs_of n words)) r ≡ no_rule
+  pair_none : (r : ℕ) → triangle n ≤ r → asked (pair_rules n (pairs_of n words)) r ≡ no_rule
   pair_none r h = asked_past (pair_rules n (pairs_of n words)) r (let l = rules_length n (pairs_of n words) in omega arith)
 
   module _ (r x y : ℕ) (below : r < triangle n) (ends : pair_at n r ≡ (x, y)) where
-    pub pair_asked : asked (pair_rules n (pairs_of n words)) r ≡ pair_rule (pairs_of n words) x y
+    pair_asked : asked (pair_rules n (pairs_of n words)) r ≡ pair_rule (pairs_of n words) x y
     pair_asked =
         let most = triangle_few n few in
         let long = rules_length n (pairs_of n words) in
@@ -75,25 +72,22 @@ module _ (n : ℕ) (few : n ≤ field_limit) (words : List ℕ) where
 
     -- partners from either side
     module _ (side : Side) (a w : ℕ) (small : w < 2 ^ option_limit) (option : a < option_limit) where
-      partner_by : (passes : ℕ → Bool) → ((b : ℕ) → b < option_limit → passes b ≡ allows_on (pair_rule (pairs_of n words) x y) side a b) → (answer : Option ℕ) → Found passes w answer
-          → Partner (pair_rules n (pairs_of n words)) side r a w answer
-      partner_by passes same answer found =
-          found_like passes (allowed_on (pair_rules n (pairs_of n words)) side r a) w
-          (λ b t. let l = has_below option_limit w b small t in
-          same b l ∙ permits_at (pair_rule (pairs_of n words) x y) side a b fields option l
-          ∙ sym (allowed_on_by (pair_rules n (pairs_of n words)) r (pair_rule (pairs_of n words) x y) pair_asked side a b))
+      found_by : (passes : ℕ → Bool) → ((b : ℕ) → b < option_limit → passes b ≡ allows_on (pair_rule (pairs_of n words) x y) side a b) → (answer : Option ℕ) → Found passes w answer
+          → Found (permits_on (pair_rule (pairs_of n words) x y) side a) w answer
+      found_by passes same answer found =
+          found_like passes (permits_on (pair_rule (pairs_of n words) x y) side a) w
+          (λ b t. let l = has_below option_limit w b small t in same b l ∙ permits_at (pair_rule (pairs_of n words) x y) side a b fields option l)
           answer found
 
-      pub pair_from_left : side ≡ Left → (answer : Option ℕ) → Found (both_orders words x a y) w answer → Partner (pair_rules n (pairs_of n words)) side r a w answer
+      pub pair_from_left : side ≡ Left → (answer : Option ℕ) → Found (both_orders words x a y) w answer → Found (permits_on (pair_rule (pairs_of n words) x y) side a) w answer
       pair_from_left e =
-          partner_by (both_orders words x a y) (λ b l. both_left a b option l ∙ ap (λ s. allows_on (pair_rule (pairs_of n words) x y) s a b) (sym e))
+          found_by (both_orders words x a y) (λ b l. both_left a b option l ∙ ap (λ s. allows_on (pair_rule (pairs_of n words) x y) s a b) (sym e))
 
-      pub pair_from_right : side ≡ Right → (answer : Option ℕ) → Found (both_orders words y a x) w answer → Partner (pair_rules n (pairs_of n words)) side r a w answer
+      pub pair_from_right : side ≡ Right → (answer : Option ℕ) → Found (both_orders words y a x) w answer → Found (permits_on (pair_rule (pairs_of n words) x y) side a) w answer
       pair_from_right e =
-          partner_by (both_orders words y a x) (λ b l. both_right a b option l ∙ ap (λ s. allows_on (pair_rule (pairs_of n words) x y) s a b) (sym e))
+          found_by (both_orders words y a x) (λ b l. both_right a b option l ∙ ap (λ s. allows_on (pair_rule (pairs_of n words) x y) s a b) (sym e))
 
-    -- no option so high has a partner
-    pub pair_no_option : (side : Side) (a b : ℕ) → option_limit ≤ a → allowed_on (pair_rules n (pairs_of n words)) side r a b ≡ false
-    pair_no_option side a b h =
-        allowed_on_by (pair_rules n (pairs_of n words)) r (pair_rule (pairs_of n words) x y) pair_asked side a b
-        ∙ permits_out (pair_rule (pairs_of n words) x y) side a b (and_right (between_fields (pair_rule (pairs_of n words) x y)) (ltb a option_limit) (le-ltb a option_limit h))
+  -- the rule of the ends that were found, if there is such a rule
+  pub pair_between : (r : ℕ) (ends : Option Ends) → PairEnds n r ends → asked (pair_rules n (pairs_of n words)) r ≡ option_map_or (rule_between (pairs_of n words)) ends no_rule
+  pair_between r (Some ends) p = pair_asked r ends.left ends.right p.0 p.1
+  pair_between r None p = pair_none r p

@@ -1,6 +1,6 @@
 -- Rules by a formula on the difference of their two options, the left one less the right one.
-use Rattle.std.specs.Prelude.{ℕ, Bool, false, not, ◌&&◌, List, map, ℤ, pos, ◌+ℤ◌, ◌-ℤ◌, Some, None, Option, int_le, unsigned_abs}
-use Rattle.network.specs.Network.{Rule, no_rule}
+use Rattle.std.specs.Prelude.{ℕ, Bool, false, not, ◌&&◌, List, map, ℤ, pos, ◌+ℤ◌, ◌-ℤ◌, int_le, unsigned_abs}
+use Rattle.network.specs.Network.{Rule}
 use Rattle.network.specs.declared.rules.Kind.{Kind}
 use Rattle.network.specs.declared.rules.Kind.TheVariants.{Equal, Different, AtMost, Apart, Unknown}
 use Rattle.network.specs.declared.rules.FormulaRule.{FormulaRule}
@@ -24,11 +24,6 @@ formula_rule f = record { left = f.left; right = f.right; allows = λ a b. fulfi
 
 abbrev pub formula_rules : List FormulaRule → List Rule
 formula_rules = map formula_rule
-
--- the rule of a record that was looked up
-abbrev pub recorded : Option FormulaRule → Rule
-recorded (Some f) = formula_rule f
-recorded None = no_rule
 
 -- the difference, left less right, of option a on a side and option b across
 abbrev pub difference_on : Side → ℕ → ℕ → ℤ

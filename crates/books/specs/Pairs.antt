@@ -19,6 +19,10 @@ pairs_of n words x a y b = (nat_lt x n && (nat_lt a option_limit && nat_lt y fie
 abbrev pub pair_rule : Pairs → ℕ → ℕ → Rule
 pair_rule q x y = record { left = x; right = y; allows = λ a b. q x a y b && q y b x a }
 
+-- the same, of two ends
+abbrev pub rule_between : Pairs → Ends → Rule
+rule_between q ends = pair_rule q ends.left ends.right
+
 -- the rules of x with the `more` fields from y on
 abbrev pub rules_from : Pairs → ℕ → ℕ → ℕ → List Rule
 rules_from q x y zero = []

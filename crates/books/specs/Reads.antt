@@ -1,5 +1,5 @@
 -- What the four questions of a book read of its list of rules.
-use Rattle.std.specs.Prelude.{ℕ, ◌+◌, min, Bool, cond, ◌&&◌, T, List, length, Some, None, Option, nat_lt}
+use Rattle.std.specs.Prelude.{ℕ, ◌+◌, min, Bool, cond, ◌&&◌, T, List, length, Some, None, Option, nat_lt, slice_get}
 use Rattle.network.specs.Network.{option_limit, rule_limit, no_field, has, Rule, rule_at, no_rule}
 use Rattle.network.specs.declared.rules.Side.{Side}
 use Rattle.network.specs.declared.rules.Side.TheVariants.{Left, Right}
@@ -11,6 +11,10 @@ count_of rules = min (rule_limit + 1) (length rules)
 -- the rule that number r asks for: one of the first 128 of the list, and else no rule
 unfoldable pub asked : List Rule → ℕ → Rule
 asked rules r = cond (nat_lt r rule_limit) (rule_at rules r) no_rule
+
+-- what rule r has in a list with an entry for each rule; nothing from number 128 on, or past the list
+abbrev pub listed : {X : Type 0} → List X → ℕ → Option X
+listed entries r = cond (nat_lt r rule_limit) (slice_get entries r) None
 
 -- a rule between two fields allows a pair of options that fields can have, the left option first
 abbrev pub permits : Rule → ℕ → ℕ → Bool

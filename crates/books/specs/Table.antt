@@ -1,6 +1,6 @@
 -- Rules by tables: one row of a rule for each option of its left field, a set of options of its right field.
-use Rattle.std.specs.Prelude.{ℕ, suc, ◌+◌, ◌*◌, ◌&&◌, List, [], ◌∷◌, Some, None, Option, nat_lt, slice_index}
-use Rattle.network.specs.Network.{option_limit, has, Rule, no_rule}
+use Rattle.std.specs.Prelude.{ℕ, suc, ◌+◌, ◌*◌, ◌&&◌, List, [], ◌∷◌, nat_lt, slice_index}
+use Rattle.network.specs.Network.{option_limit, has, Rule}
 use Rattle.network.specs.declared.rules.Ends.{Ends}
 
 -- row a of rule r; a missing row is empty
@@ -18,8 +18,3 @@ table_rules_from r (ends ∷ more) rows = table_rule rows r ends ∷ table_rules
 
 abbrev pub table_rules : List Ends → List ℕ → List Rule
 table_rules = table_rules_from 0
-
--- rule r, of the ends that were looked up
-abbrev pub tabled : List ℕ → ℕ → Option Ends → Rule
-tabled rows r (Some ends) = table_rule rows r ends
-tabled rows r None = no_rule

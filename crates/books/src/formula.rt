@@ -1,13 +1,15 @@
 // Rules by formulas on the difference of their two options.
 
 ghost use Rattle.std.specs.Prelude.{◌≡◌, ℕ, ◌&&◌, pos, ◌-ℤ◌, int_le};
-ghost use Rattle.network.specs.Network.{has};
+ghost use Rattle.std.specs.Option.{option_map_or};
+ghost use Rattle.network.specs.Network.{has, no_rule};
 ghost use Rattle.books.specs.Reads.{asked, permits, permits_on};
-ghost use Rattle.books.specs.Formula.{fulfils, formula_rule, formula_rules, recorded, difference_on, meeting_on, before_on};
+ghost use Rattle.books.specs.Formula.{fulfils, formula_rule, formula_rules, difference_on, meeting_on, before_on};
 
 use super::book::Book;
+use super::lent::{rule_count, rule_entry};
 use network::options::{OPTIONS, OptionSet};
-use network::rules::{Ends, FormulaRule, Kind, RULES, Side, TOO_MANY};
+use network::rules::{Arc, Ends, FormulaRule, Kind, Side};
 
 // A book over a lent list of records, one a rule.
 #[derive(Clone, Copy)]
@@ -24,12 +26,9 @@ impl<'a> FormulaBook<'a> {
 
     // The record of the rule that a number asks for.
     fn record_of(&self, rule: u8) -> Option<FormulaRule>
-        ensures { asked (formula_rules self.now.rules.now) rule ≡ recorded result }
+        ensures { asked (formula_rules self.now.rules.now) rule ≡ option_map_or formula_rule result no_rule }
     {
-        if rule >= RULES || rule as usize >= self.rules.len() {
-            return None;
-        }
-        Some(self.rules[rule as usize])
+        rule_entry(self.rules, rule)
     }
 }
 
@@ -37,28 +36,21 @@ impl<'a> Book for FormulaBook<'a> {
     ghost meaning = { λ b. formula_rules b.rules.now };
 
     fn count(&self) -> u8 {
-        self.rules.len().min(TOO_MANY as usize) as u8
+        rule_count(self.rules)
     }
 
     fn ends(&self, rule: u8) -> Ends {
-        match self.record_of(rule) {
-            Some(found) => found.ends(),
-            None => Ends::nowhere(),
-        }
+        self.record_of(rule)
+            .map_or_else(Ends::nowhere, FormulaRule::ends)
     }
 
     fn allows(&self, rule: u8, left: u8, right: u8) -> bool {
-        match self.record_of(rule) {
-            Some(found) => permitted(found, left, right),
-            None => false,
-        }
+        self.record_of(rule)
+            .is_some_and(|found| permitted(found, left, right))
     }
 
-    fn partner(&mut self, rule: u8, side: Side, option: u8, set: OptionSet) -> Option<u8> {
-        match self.record_of(rule) {
-            Some(found) => partners(found, side, option, set).lowest(),
-            None => None,
-        }
+    fn partner(&mut self, arc: Arc, option: u8, set: OptionSet) -> Option<u8> {
+        partners(self.record_of(arc.rule)?, arc.side, option, set).lowest()
     }
 }
 
@@ -85,7 +77,8 @@ fn fulfilled(rule: FormulaRule, left: u8, right: u8) -> bool
     }
 }
 
-// The options of the set whose pair with an option on that side the rule allows.
+// The options of the set whose pair with an option on that side the rule allows. Side and option stay two here and below: in a struct
+// they would be put together only to be taken apart for the difference.
 fn partners(rule: FormulaRule, side: Side, option: u8, set: OptionSet) -> OptionSet
     ensures { (b : ℕ) → has result.word b ≡ (has set.word b && permits_on (formula_rule rule) side option b) }
 {
@@ -135,24 +128,12 @@ fn at_most(side: Side, set: OptionSet, across: i16) -> OptionSet
 fn up_to(set: OptionSet, number: i16) -> OptionSet
     ensures { (b : ℕ) → has result.word b ≡ (has set.word b && int_le (pos b) number) }
 {
-    if number < 0 {
-        return OptionSet::empty();
-    }
-    if number >= i16::from(OPTIONS) {
-        return set;
-    }
-    set.below(number as u8 + 1)
+    set.below((number.clamp(-1, i16::from(OPTIONS)) + 1) as u8)
 }
 
 // The options of the set that are at least a number.
 fn starting_at(set: OptionSet, number: i16) -> OptionSet
     ensures { (b : ℕ) → has result.word b ≡ (has set.word b && int_le number (pos b)) }
 {
-    if number < 0 {
-        return set;
-    }
-    if number >= i16::from(OPTIONS) {
-        return OptionSet::empty();
-    }
-    set.starting_at(number as u8)
+    set.starting_at(number.clamp(0, i16::from(OPTIONS)) as u8)
 }

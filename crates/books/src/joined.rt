@@ -6,13 +6,13 @@ ghost use Rattle.books.specs.Joined.{placed_rule};
 
 use super::book::Book;
 use network::options::OptionSet;
-use network::rules::{Ends, RULES, Side, TOO_MANY};
+use network::rules::{Arc, Ends, RULES, TOO_MANY};
 
 // Where a rule of the joined book stands: its number in the first or in the second book.
+#[derive(Clone, Copy)]
 enum Place {
     First(u8),
     Second(u8),
-    Nowhere,
 }
 
 #[derive(Drop)]
@@ -29,17 +29,18 @@ impl<F: Book, S: Book> Joined<F, S> {
         Joined { first, second }
     }
 
-    fn place(&self, rule: u8) -> Place
+    // The place of the rule that a number asks for.
+    fn place(&self, rule: u8) -> Option<Place>
         ensures { asked (F.Book.meaning self.now.first ++ S.Book.meaning self.now.second) rule ≡ placed_rule (F.Book.meaning self.now.first) (S.Book.meaning self.now.second) result }
     {
         if rule >= RULES {
-            return Place::Nowhere;
+            return None;
         }
         let before = self.first.count();
         if rule < before {
-            return Place::First(rule);
+            return Some(Place::First(rule));
         }
-        Place::Second(rule - before)
+        Some(Place::Second(rule - before))
     }
 }
 
@@ -53,25 +54,25 @@ impl<F: Book, S: Book> Book for Joined<F, S> {
 
     fn ends(&self, rule: u8) -> Ends {
         match self.place(rule) {
-            Place::First(own) => self.first.ends(own),
-            Place::Second(own) => self.second.ends(own),
-            Place::Nowhere => Ends::nowhere(),
+            Some(Place::First(own)) => self.first.ends(own),
+            Some(Place::Second(own)) => self.second.ends(own),
+            None => Ends::nowhere(),
         }
     }
 
     fn allows(&self, rule: u8, left: u8, right: u8) -> bool {
         match self.place(rule) {
-            Place::First(own) => self.first.allows(own, left, right),
-            Place::Second(own) => self.second.allows(own, left, right),
-            Place::Nowhere => false,
+            Some(Place::First(own)) => self.first.allows(own, left, right),
+            Some(Place::Second(own)) => self.second.allows(own, left, right),
+            None => false,
         }
     }
 
-    fn partner(&mut self, rule: u8, side: Side, option: u8, set: OptionSet) -> Option<u8> {
-        match self.place(rule) {
-            Place::First(own) => self.first.partner(own, side, option, set),
-            Place::Second(own) => self.second.partner(own, side, option, set),
-            Place::Nowhere => None,
+    fn partner(&mut self, arc: Arc, option: u8, set: OptionSet) -> Option<u8> {
+        let side = arc.side;
+        match self.place(arc.rule)? {
+            Place::First(rule) => self.first.partner(Arc { rule, side }, option, set),
+            Place::Second(rule) => self.second.partner(Arc { rule, side }, option, set),
         }
     }
 }

@@ -3,7 +3,7 @@
 // What a book is asked:                 book::Book
 // Rules by formulas on differences:     formula::FormulaBook
 // Rules by tables:                      table::TableBook
-// Rules by pair words:                  pair::PairBook
+// Rules by pair words:                  pair::PairBook, pair::word_place
 // The rules of one book, then another:  joined::Joined
 // A book that remembers its partners:   remembering::Remembering
 #![tactic(auto)]

@@ -1,16 +1,27 @@
 // Rules by pair words.
 
 ghost use Rattle.std.specs.Prelude.{◌≡◌, min, slice_index};
-ghost use Rattle.network.specs.Network.{field_limit, words as words_of};
-ghost use Rattle.books.specs.Reads.{Found};
-ghost use Rattle.books.specs.Pairs.{word_at, pair_book, PairEnds, both_orders};
+ghost use Rattle.std.specs.Option.{option_map_or};
+ghost use Rattle.network.specs.Network.{field_limit, no_rule, words as words_of};
+ghost use Rattle.books.specs.Reads.{asked, Found};
+ghost use Rattle.books.specs.Pairs.{word_at, pairs_of, rule_between, pair_book, PairEnds, both_orders};
 
 use super::book::Book;
 use super::lent::set_at;
 use network::options::{OPTIONS, OptionSet};
-use network::rules::{Ends, FIELDS, Side};
+use network::rules::{Arc, Ends, FIELDS, Side};
+
+// The place of the pair word of option `option` of field `own` towards field `other`; the words of an option, one for
+// each field, stand one after the other.
+pub fn word_place(own: u8, option: u8, other: u8) -> usize
+    ensures { result ≡ word_at own option other }
+{
+    let row = usize::from(own) * usize::from(OPTIONS) + usize::from(option);
+    row * usize::from(FIELDS) + usize::from(other)
+}
 
 // A book with a rule for each two fields, over lent pair words: a set of options of each field for each option of each field.
+// The words are handed in as they lie in the caller's memory, and how many fields they are of beside them.
 #[derive(Clone, Copy)]
 pub struct PairBook<'a> {
     fields: usize,
@@ -25,19 +36,27 @@ impl<'a> PairBook<'a> {
         PairBook { fields, words }
     }
 
-    // The ends of a rule, if there is such a rule.
-    fn ends_of(&self, rule: u8) -> Option<Ends>
-        ensures { PairEnds (min field_limit self.now.fields) rule result }
+    // How many fields there are, and no more than there can be.
+    fn field_count(&self) -> u8
+        ensures { result ≡ min field_limit self.now.fields }
     {
-        pair_ends(self.fields.min(usize::from(FIELDS)) as u8, rule)
+        self.fields.min(usize::from(FIELDS)) as u8
     }
 
-    // The options of field `other` that option `option` of field `own` is paired with in that order.
+    // The ends of a rule, if there is such a rule.
+    fn ends_of(&self, rule: u8) -> Option<Ends>
+        ensures ends { PairEnds (min field_limit self.now.fields) rule result }
+        ensures between { asked (pair_book self.now.fields (words_of self.now.words.now)) rule ≡ option_map_or (rule_between (pairs_of (min field_limit self.now.fields) (words_of self.now.words.now))) result no_rule }
+    {
+        pair_ends(self.field_count(), rule)
+    }
+
+    // The options of field `other` that option `option` of field `own` is paired with in that order. Field and option stay two numbers:
+    // in a struct they would be put together only to be taken apart for the place of the word.
     fn word(&self, own: u8, option: u8, other: u8) -> OptionSet
         ensures { result.word ≡ slice_index (words_of self.now.words.now) (word_at own option other) }
     {
-        let row = usize::from(own) * usize::from(OPTIONS) + usize::from(option);
-        set_at(self.words, row * usize::from(FIELDS) + usize::from(other))
+        set_at(self.words, word_place(own, option, other))
     }
 
     fn paired(&self, own: u8, option: u8, other: u8, with: u8) -> bool
@@ -50,13 +69,8 @@ impl<'a> PairBook<'a> {
     fn partner_in(&self, own: u8, option: u8, other: u8, set: OptionSet) -> Option<u8>
         ensures { Found (both_orders (words_of self.now.words.now) own option other) set.word result }
     {
-        let mut waiting = set.intersection(self.word(own, option, other));
-        while let Some(with) = waiting.take_lowest() {
-            if self.word(other, with, own).contains(option) {
-                return Some(with);
-            }
-        }
-        None
+        set.intersection(self.word(own, option, other))
+            .find(|with| self.word(other, with, own).contains(option))
     }
 }
 
@@ -65,6 +79,7 @@ fn pair_ends(fields: u8, rule: u8) -> Option<Ends>
     ensures { PairEnds fields rule result }
 {
     let mut rest = rule;
+    // It counts fields, of which there is no list.
     for left in 0..fields {
         let later = fields - 1 - left;
         if rest < later {
@@ -82,31 +97,25 @@ impl<'a> Book for PairBook<'a> {
     ghost meaning = { λ b. pair_book b.fields (words_of b.words.now) };
 
     fn count(&self) -> u8 {
-        let fields = self.fields.min(usize::from(FIELDS)) as u8;
+        let fields = self.field_count();
         fields * fields.saturating_sub(1) / 2
     }
 
     fn ends(&self, rule: u8) -> Ends {
-        match self.ends_of(rule) {
-            Some(ends) => ends,
-            None => Ends::nowhere(),
-        }
+        self.ends_of(rule).unwrap_or_else(Ends::nowhere)
     }
 
     fn allows(&self, rule: u8, left: u8, right: u8) -> bool {
-        match self.ends_of(rule) {
-            Some(ends) => ((left < OPTIONS) & (right < OPTIONS))
-                & self.paired(ends.left, left, ends.right, right),
-            None => false,
-        }
+        let Some(ends) = self.ends_of(rule) else {
+            return false;
+        };
+        ((left < OPTIONS) & (right < OPTIONS)) & self.paired(ends.left, left, ends.right, right)
     }
 
-    fn partner(&mut self, rule: u8, side: Side, option: u8, set: OptionSet) -> Option<u8> {
-        let Some(ends) = self.ends_of(rule) else {
-            return None;
-        };
+    fn partner(&mut self, arc: Arc, option: u8, set: OptionSet) -> Option<u8> {
+        let ends = self.ends_of(arc.rule)?;
         if option < OPTIONS {
-            return match side {
+            return match arc.side {
                 Side::Left => self.partner_in(ends.left, option, ends.right, set),
                 Side::Right => self.partner_in(ends.right, option, ends.left, set),
             };

@@ -7,9 +7,9 @@ ghost use Rattle.books.specs.Residues.{residue_count, residue_place, kept_after,
 use super::book::Book;
 use super::sides::placed;
 use network::options::{OPTIONS, OptionSet};
-use network::rules::{Ends, RULES, Side};
+use network::rules::{Arc, Ends, RULES, Side};
 
-// One residue for each rule, side and option.
+// One residue for each rule, side and option. Fixed memory: making a book cannot fail, so the table is an array in it.
 const RESIDUES: usize = RULES as usize * 2 * OPTIONS as usize;
 
 // A book over any book, with the same meaning. It keeps for each rule, side and option the last partner that it told, its residue,
@@ -32,55 +32,55 @@ impl<B: Book> Remembering<B> {
     }
 
     // The residue of an option, if it is in the set and still allowed.
-    fn serving(&self, rule: u8, side: Side, option: u8, set: OptionSet) -> Option<u8>
-        ensures { Serves self.now.kept (B.Book.meaning self.now.book) side rule option set.word result }
+    fn serving(&self, arc: Arc, option: u8, set: OptionSet) -> Option<u8>
+        ensures { Serves self.now.kept (B.Book.meaning self.now.book) arc.side arc.rule option set.word result }
     {
-        if rule >= RULES || option >= OPTIONS {
+        if arc.rule >= RULES || option >= OPTIONS {
             return None;
         }
-        let other = self.kept[residue_place(rule, side, option)]?;
-        let (left, right) = placed(side, option, other);
-        if set.contains(other) && self.book.allows(rule, left, right) {
+        let other = self.kept[residue_place(arc, option)]?;
+        let (left, right) = placed(arc.side, option, other);
+        if set.contains(other) && self.book.allows(arc.rule, left, right) {
             return Some(other);
         }
         None
     }
 
     // The residue if it serves, and else what the book tells.
-    fn tell(&mut self, rule: u8, side: Side, option: u8, set: OptionSet) -> Option<u8>
+    fn tell(&mut self, arc: Arc, option: u8, set: OptionSet) -> Option<u8>
         ensures same { B.Book.meaning self.new.book ≡ B.Book.meaning self.old.book }
-        ensures found { Partner (B.Book.meaning self.old.book) side rule option set.word result }
-        ensures tells { TellsKept self.old.kept (B.Book.meaning self.old.book) side rule option set.word result }
+        ensures found { Partner (B.Book.meaning self.old.book) arc.side arc.rule option set.word result }
+        ensures tells { TellsKept self.old.kept (B.Book.meaning self.old.book) arc.side arc.rule option set.word result }
         ensures kept { self.new.kept ≡ self.old.kept }
     {
-        if let Some(other) = self.serving(rule, side, option, set) {
+        if let Some(other) = self.serving(arc, option, set) {
             return Some(other);
         }
-        self.book.partner(rule, side, option, set)
+        self.book.partner(arc, option, set)
     }
 
     // Keeps an answer: the partner for the option, and across the rule the option for the partner.
-    fn keep(&mut self, rule: u8, side: Side, option: u8, answer: Option<u8>)
-        requires { InTable rule option answer }
+    fn keep(&mut self, arc: Arc, option: u8, answer: Option<u8>)
+        requires { InTable arc.rule option answer }
         ensures book { self.new.book ≡ self.old.book }
-        ensures kept { self.new.kept ≡ kept_after self.old.kept side rule option answer }
+        ensures kept { self.new.kept ≡ kept_after self.old.kept arc.side arc.rule option answer }
     {
         if let Some(other) = answer {
-            self.kept[residue_place(rule, side, option)] = Some(other);
-            self.kept[residue_place(rule, side.across(), other)] = Some(option);
+            self.kept[residue_place(arc, option)] = Some(other);
+            self.kept[residue_place(arc.across(), other)] = Some(option);
         }
     }
 }
 
 // The place of a residue in the table.
-fn residue_place(rule: u8, side: Side, option: u8) -> usize
-    ensures { result ≡ residue_place side rule option }
+fn residue_place(arc: Arc, option: u8) -> usize
+    ensures { result ≡ residue_place arc.side arc.rule option }
 {
-    let number = match side {
+    let number = match arc.side {
         Side::Left => 0,
         Side::Right => 1,
     };
-    (usize::from(rule) * 2 + number) * usize::from(OPTIONS) + usize::from(option)
+    (usize::from(arc.rule) * 2 + number) * usize::from(OPTIONS) + usize::from(option)
 }
 
 impl<B: Book> Book for Remembering<B> {
@@ -98,14 +98,14 @@ impl<B: Book> Book for Remembering<B> {
         self.book.allows(rule, left, right)
     }
 
-    fn partner(&mut self, rule: u8, side: Side, option: u8, set: OptionSet) -> Option<u8>
+    fn partner(&mut self, arc: Arc, option: u8, set: OptionSet) -> Option<u8>
         ensures same { B.Book.meaning self.new.book ≡ B.Book.meaning self.old.book }
-        ensures found { Partner (B.Book.meaning self.old.book) side rule option set.word result }
-        ensures tells { TellsKept self.old.kept (B.Book.meaning self.old.book) side rule option set.word result }
-        ensures kept { self.new.kept ≡ kept_after self.old.kept side rule option result }
+        ensures found { Partner (B.Book.meaning self.old.book) arc.side arc.rule option set.word result }
+        ensures tells { TellsKept self.old.kept (B.Book.meaning self.old.book) arc.side arc.rule option set.word result }
+        ensures kept { self.new.kept ≡ kept_after self.old.kept arc.side arc.rule option result }
     {
-        let answer = self.tell(rule, side, option, set);
-        self.keep(rule, side, option, answer);
+        let answer = self.tell(arc, option, set);
+        self.keep(arc, option, answer);
         answer
     }
 }

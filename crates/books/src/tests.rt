@@ -6,8 +6,15 @@ use super::pair::PairBook;
 use super::remembering::Remembering;
 use super::table::TableBook;
 use network::options::OptionSet;
-use network::rules::{Ends, FormulaRule, Kind, Side};
+use network::rules::{Arc, Ends, FormulaRule, Kind, Side};
 
+// What is answered for a rule that is not there.
+const NOWHERE: Ends = Ends {
+    left: 255,
+    right: 255,
+};
+
+// Each crate of tests has its own, beside its rules: a crate for one literal would be no plainer.
 fn rule(kind: Kind, difference: i8) -> FormulaRule {
     FormulaRule {
         left: 0,
@@ -17,8 +24,8 @@ fn rule(kind: Kind, difference: i8) -> FormulaRule {
     }
 }
 
-fn all() -> OptionSet {
-    OptionSet::from(u32::MAX)
+fn arc(rule: u8, side: Side) -> Arc {
+    Arc { rule, side }
 }
 
 #[test]
@@ -43,8 +50,8 @@ fn formulas_are_exact_at_both_ends(rt: HostRuntime) {
         let rules = [rule];
         let mut book = FormulaBook::new(&rules);
         assert_eq!(rt; book.allows(0, left, right), allowed);
-        let only_left = book.partner(0, Side::Right, right, OptionSet::only(left));
-        let only_right = book.partner(0, Side::Left, left, OptionSet::only(right));
+        let only_left = book.partner(arc(0, Side::Right), right, OptionSet::only(left));
+        let only_right = book.partner(arc(0, Side::Left), left, OptionSet::only(right));
         assert_eq!(rt; only_left.is_some(), allowed);
         assert_eq!(rt; only_right.is_some(), allowed);
     }
@@ -86,10 +93,10 @@ fn masks_and_a_plain_scan_agree(rt: HostRuntime) {
             let mut masks = FormulaBook::new(&rules);
             let mut plain = Plain(FormulaBook::new(&rules));
             for option in 0..34 {
-                let left = plain.partner(0, Side::Left, option, set);
-                let right = plain.partner(0, Side::Right, option, set);
-                assert_eq!(rt; masks.partner(0, Side::Left, option, set), left);
-                assert_eq!(rt; masks.partner(0, Side::Right, option, set), right);
+                for side in [Side::Left, Side::Right] {
+                    let found = plain.partner(arc(0, side), option, set);
+                    assert_eq!(rt; masks.partner(arc(0, side), option, set), found);
+                }
             }
         }
     }
@@ -105,22 +112,10 @@ fn long_and_empty_lists_of_rules(rt: HostRuntime) {
     }
     let book = FormulaBook::new(&many);
     assert_eq!(rt; book.ends(127), Ends { left: 0, right: 1 });
-    assert_eq!(rt;
-        book.ends(128),
-        Ends {
-            left: 255,
-            right: 255,
-        }
-    );
+    assert_eq!(rt; book.ends(128), NOWHERE);
     assert!(rt; !book.allows(128, 0, 0));
     let empty = FormulaBook::new(&many[0..0]);
-    assert_eq!(rt;
-        empty.ends(0),
-        Ends {
-            left: 255,
-            right: 255,
-        }
-    );
+    assert_eq!(rt; empty.ends(0), NOWHERE);
 }
 
 #[test]
@@ -129,18 +124,24 @@ fn tables_and_pair_words_cut_short(rt: HostRuntime) {
     // rows for the first rule and for two options of the second
     let rows = [OptionSet::only(3); 34];
     let mut table = TableBook::new(&ends, &rows);
-    assert_eq!(rt; table.partner(1, Side::Left, 1, all()), Some(3));
-    assert_eq!(rt; table.partner(1, Side::Left, 2, all()), None);
     assert_eq!(rt;
-        table.partner(1, Side::Right, 3, OptionSet::from(6)),
+        table.partner(arc(1, Side::Left), 1, OptionSet::from(u32::MAX)),
+        Some(3)
+    );
+    assert_eq!(rt;
+        table.partner(arc(1, Side::Left), 2, OptionSet::from(u32::MAX)),
+        None
+    );
+    assert_eq!(rt;
+        table.partner(arc(1, Side::Right), 3, OptionSet::from(6)),
         Some(1)
     );
     assert_eq!(rt;
-        table.partner(1, Side::Right, 3, OptionSet::from(4)),
+        table.partner(arc(1, Side::Right), 3, OptionSet::from(4)),
         None
     );
 
-    let words = [all(); 513];
+    let words = [OptionSet::from(u32::MAX); 513];
     let mut pairs = PairBook::new(17, &words);
     assert_eq!(rt; pairs.count(), 120);
     assert_eq!(rt;
@@ -150,16 +151,16 @@ fn tables_and_pair_words_cut_short(rt: HostRuntime) {
             right: 15,
         }
     );
-    assert_eq!(rt;
-        pairs.ends(120),
-        Ends {
-            left: 255,
-            right: 255,
-        }
-    );
+    assert_eq!(rt; pairs.ends(120), NOWHERE);
     // field 1 has one word only, that of its option 0 towards field 0
-    assert_eq!(rt; pairs.partner(0, Side::Left, 5, all()), Some(0));
-    assert_eq!(rt; pairs.partner(0, Side::Right, 1, all()), None);
+    assert_eq!(rt;
+        pairs.partner(arc(0, Side::Left), 5, OptionSet::from(u32::MAX)),
+        Some(0)
+    );
+    assert_eq!(rt;
+        pairs.partner(arc(0, Side::Right), 1, OptionSet::from(u32::MAX)),
+        None
+    );
 }
 
 #[test]
@@ -169,13 +170,25 @@ fn layers_over_books(rt: HostRuntime) {
     let joined = Joined::new(FormulaBook::new(&first), FormulaBook::new(&second));
     let mut book = Remembering::new(joined);
     assert_eq!(rt; book.count(), 2);
-    assert_eq!(rt; book.partner(1, Side::Left, 0, all()), Some(1));
     assert_eq!(rt;
-        book.partner(1, Side::Left, 0, OptionSet::from(4)),
+        book.partner(arc(1, Side::Left), 0, OptionSet::from(u32::MAX)),
+        Some(1)
+    );
+    assert_eq!(rt;
+        book.partner(arc(1, Side::Left), 0, OptionSet::from(4)),
         Some(2)
     );
     // the residue is told, though a lower option would do
-    assert_eq!(rt; book.partner(1, Side::Left, 0, all()), Some(2));
-    assert_eq!(rt; book.partner(1, Side::Right, 2, all()), Some(0));
-    assert_eq!(rt; book.partner(0, Side::Left, 0, all()), Some(0));
+    assert_eq!(rt;
+        book.partner(arc(1, Side::Left), 0, OptionSet::from(u32::MAX)),
+        Some(2)
+    );
+    assert_eq!(rt;
+        book.partner(arc(1, Side::Right), 2, OptionSet::from(u32::MAX)),
+        Some(0)
+    );
+    assert_eq!(rt;
+        book.partner(arc(0, Side::Left), 0, OptionSet::from(u32::MAX)),
+        Some(0)
+    );
 }

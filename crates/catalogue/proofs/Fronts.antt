@@ -1,12 +1,8 @@
 -- A list in two parts, the front that is entered and the rest that is free.
-use Rattle.std.proofs.Common.{◌≡◌, ℕ, zero, suc, ◌+◌, ◌<◌, ◌≤◌, min, Bool, true, cond, ltb, ◌⊎◌, List, [], ◌∷◌, ◌++◌, length, take, drop, set, replicate, sym, refl, ap, ◌∙◌, inl, inr, arith}
+use Rattle.std.proofs.Common.{◌≡◌, ℕ, zero, suc, ◌+◌, ◌<◌, ◌≤◌, min, Bool, true, cond, ltb, ◌⊎◌, List, [], ◌∷◌, ◌++◌, length, take, set, replicate, sym, refl, ap, ◌∙◌, inl, inr, arith}
 use Rattle.catalogue.specs.Lent.{Places, added, extended, replaced}
-use Rattle.std.proofs.lemmas.List.{drop-set-lt, drop-drop, take_all, append_assoc, replicate_more, length-drop, set_past}
+use Rattle.std.proofs.lemmas.List.{drop-drop, take_all, append_assoc, replicate_more, length-drop, set_past}
 use Rattle.std.proofs.lemmas.Bool.{cases_lt, lt-ltb, cond-true}
-
--- the free places after one more was filled
-pub free_next : {X : Type 0} (xs : List X) (n : ℕ) (v : X) → drop (n + 1) (set xs n v) ≡ drop 1 (drop n xs)
-free_next xs n v = drop-set-lt (n + 1) xs n v (omega arith) ∙ sym (drop-drop 1 n xs)
 
 -- a change within the front
 pub take_set : {X : Type 0} (xs : List X) (n i : ℕ) (v : X) → i < n → take n (set xs i v) ≡ set (take n xs) i v
@@ -15,14 +11,6 @@ take_set [] (suc n) i v h = refl
 take_set (x ∷ xs) zero i v h = absurd (omega arith)
 take_set (x ∷ xs) (suc n) zero v h = refl
 take_set (x ∷ xs) (suc n) (suc i) v h = ap (λ l. x ∷ l) (take_set xs n i v (omega arith))
-
--- the front, where the count may pass the end
-pub take_min : {X : Type 0} (xs : List X) (n : ℕ) → take (min n (length xs)) xs ≡ take n xs
-take_min xs n =
-    elim (cases_lt n (length xs)) [
-      | inl lt ↦ let e : min n (length xs) ≡ n = omega arith in ap (λ k. take k xs) e
-      | inr le ↦ take_all (min n (length xs)) xs (omega arith) ∙ sym (take_all n xs le)
-    ]
 
 -- one more copy behind some copies
 pub copies_more : {X : Type 0} (xs : List X) (n : ℕ) (v : X) → (xs ++ replicate n v) ++ v ∷ [] ≡ xs ++ replicate (n + 1) v

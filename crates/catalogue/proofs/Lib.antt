@@ -1,3 +1,2 @@
 pub mod Fronts
-pub mod Any
-pub mod Closing
+pub mod Opening

@@ -1,6 +1,7 @@
 -- What a catalogue holds, what entering fields and rules does to it, and when it can be closed.
-use Rattle.std.specs.Prelude.{ℕ, ◌+◌, ◌-◌, ◌*◌, Bool, true, false, cond, ◌||◌, List, [], ◌∷◌, length, pos, negsuc, Some, None, Ok, Err, Option, Result, ◌==◌, int_lt, nat_eq, nat_le, nat_lt}
-use Rattle.network.specs.Network.{option_limit, field_limit, rule_limit}
+use Rattle.std.specs.Prelude.{ℕ, ◌+◌, ◌-◌, ◌*◌, Bool, true, false, cond, ◌||◌, List, [], length, pos, negsuc, Some, None, Option, ◌==◌, int_lt, nat_eq, nat_le, nat_lt}
+use Rattle.network.specs.Network.{option_limit, field_limit, rule_limit, no_fields}
+use Rattle.propagation.specs.Refusals.{any}
 use Rattle.network.specs.declared.options.OptionSet.{OptionSet}
 use Rattle.network.specs.declared.rules.Ends.{Ends}
 use Rattle.network.specs.declared.rules.FormulaRule.{FormulaRule}
@@ -36,7 +37,7 @@ no_option = record { word = 0 }
 
 -- the two ends are one, or one of them is above 15
 abbrev pub unfit_ends : ℕ → ℕ → Bool
-unfit_ends left right = left == right || (nat_le field_limit left || nat_le field_limit right)
+unfit_ends = no_fields field_limit
 
 abbrev pub unknown : Kind → Bool
 unknown Equal = false
@@ -94,23 +95,10 @@ formula_refusal c f = cond (unfit_formula f) (Some UnfitRule) (cond (formulas_fu
 abbrev pub with_formula : Content → FormulaRule → Content
 with_formula c f = record { sets = c.sets; ends = c.ends; rows = c.rows; formulas = added c.formulas f }
 
--- a refusal is the answer and changes nothing; else the call is done
-abbrev pub answer : Option EngineFault → Result (Unit {0}) EngineFault
-answer None = Ok tt
-answer (Some why) = Err why
-
+-- a refusal changes nothing; else the call is done
 abbrev pub outcome : Option EngineFault → Content → Content → Content
 outcome None before done = done
 outcome (Some why) before done = before
-
--- whether some element passes a test
-abbrev pub any : {X : Type 0} → (X → Bool) → List X → Bool
-any test [] = false
-any test (x ∷ xs) = test x || any test xs
-
--- one of two ends is not among n fields, or they are one
-abbrev pub no_fields : ℕ → ℕ → ℕ → Bool
-no_fields n left right = nat_le n left || (nat_le n right || left == right)
 
 -- a catalogue is closed only where a draft can be opened over it
 abbrev pub closing_refusal : Content → Option EngineFault

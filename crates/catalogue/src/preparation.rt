@@ -2,8 +2,9 @@
 
 ghost use Rattle.std.specs.Prelude.{◌≡◌, nat_le};
 ghost use Rattle.network.specs.Network.{rule_limit};
-ghost use Rattle.catalogue.specs.Content.{unprepared, answer, outcome, field_refusal, with_field, table_refusal, with_table, row_refusal, with_row, formula_refusal, with_formula, unfit_ends, unfit_formula, fields_full, tables_full, formulas_full, rule_count};
+ghost use Rattle.catalogue.specs.Content.{unprepared, outcome, field_refusal, with_field, table_refusal, with_table, row_refusal, with_row, formula_refusal, with_formula, unfit_formula, fields_full, tables_full, formulas_full, rule_count};
 ghost use Rattle.catalogue.specs.View.{content};
+ghost use Rattle.propagation.specs.Refusals.{answer};
 
 mod closing;
 
@@ -22,17 +23,10 @@ pub struct Preparation<'a> {
     pub(crate) formulas: LentVec<'a, FormulaRule>,
 }
 
-// Whether the ends of a rule are one, or one of them is above 15.
-fn unfit(left: u8, right: u8) -> bool
-    ensures { result ≡ unfit_ends left right }
-{
-    left == right || left >= FIELDS || right >= FIELDS
-}
-
 fn unfit_formula(rule: FormulaRule) -> bool
     ensures { result ≡ unfit_formula rule }
 {
-    unfit(rule.left, rule.right)
+    rule.ends().are_unfit(FIELDS)
         || rule.kind == Kind::Unknown
         || rule.difference < -31
         || rule.difference > 31
@@ -101,7 +95,7 @@ impl<'a> Preparation<'a> {
         ensures answers { result ≡ answer (table_refusal (content self.old) ends) }
         ensures after { content self.new ≡ outcome (table_refusal (content self.old) ends) (content self.old) (with_table (content self.old) ends) }
     {
-        if unfit(ends.left, ends.right) {
+        if ends.are_unfit(FIELDS) {
             return Err(EngineFault::UnfitRule);
         }
         if self.tables_full() {

@@ -1,58 +1,94 @@
 -- The strikes of a choose: how they are made, one option after another, and that they leave the chosen option alone in its field.
-use Rattle.std.proofs.Common.{◌≡◌, ℕ, zero, suc, ◌+◌, ◌-◌, ◌*◌, ◌/◌, ◌%◌, ◌^◌, ◌<◌, ◌≤◌, Bool, true, false, cond, not, ◌&&◌, T, eqb, ltb, List, [], ◌∷◌, ◌++◌, length, get_or, set, sym, refl, ap, ◌∙◌, subst, ⊎_elim, mul_assoc, mul_comm, add-mul, suc-add, pow-suc, zero-add, add-one, arith}
+use Rattle.std.proofs.Common.{◌≡◌, ℕ, zero, suc, ◌+◌, ◌-◌, ◌*◌, ◌/◌, ◌%◌, ◌^◌, ◌<◌, Bool, true, false, cond, not, ◌&&◌, T, eqb, ltb, List, [], ◌∷◌, ◌++◌, get_or, set, sym, refl, ap, ◌∙◌, subst, inl, inr, ⊎_elim, mul_assoc, mul_comm, add-mul, pow-suc, add-one, arith}
 use Rattle.std.proofs.lemmas.Nat.{pow_pos, pow_below, shr-shr, div-add-mod', div-mul-add, div_below, mod_below}
-use Rattle.std.proofs.lemmas.List.{append-nil, length-append, get_or-set_same, set-set, set-get_or}
-use Rattle.std.proofs.lemmas.Bool.{cases_Bool, cases_lt, cases_eq, eq-eqb, ne_eqb, eqb-true, eqb-false, lt-ltb, le-ltb, cond-true, cond-false, and_parts, and_cases, not-true, not-false, both_ways}
+use Rattle.std.proofs.lemmas.List.{append-nil, get_or-set_same, set-set, set-get_or}
+use Rattle.std.proofs.lemmas.Bool.{cases_Bool, cases_lt, cases_eq, eq-eqb, ne_eqb, eqb-true, eqb-false, lt-ltb, le-ltb, cond-true, cond-false, and_from, and_parts, and_cases, not-true, not-false, not_from_false, both_ways}
 use Rattle.network.specs.Network.{option_limit, has, part, Rule}
-use Rattle.network.proofs.Truth.{yes_T, T_yes}
-use Rattle.network.proofs.Bits.{has_below}
+use Rattle.network.specs.Sets.{set_without}
+use Rattle.network.proofs.Truth.{yes_T, T_yes, and_true, and_false}
+use Rattle.network.proofs.Bits.{has_below, has_less, none_of_zero}
+use Rattle.network.proofs.Masks.{has_without}
 use Rattle.propagation.specs.Strikes.{Struck, InForce}
 use Rattle.propagation.specs.declared.record.Strike.{Strike}
 use Rattle.propagation.specs.declared.record.Cause.TheVariants.{Decided}
 use Rattle.propagation.specs.declared.record.Decision.{Decision}
 use Rattle.propagation.specs.declared.record.Decision.TheVariants as decision
 use Rattle.draft.specs.Draft.{strikes_below, choose_strikes}
-use Rattle.draft.proofs.Sets.{field_within}
+use Rattle.propagation.proofs.Strikes.{is_field}
 use Rattle.draft.proofs.Strikes.{struck_append}
 
 abbrev pub chosen_out : ℕ → ℕ → ℕ → Strike
 chosen_out x a b = record { field = x; option = b; cause = Decided (decision.Choose x a) }
 
 -- whether a choose of a strikes b
-abbrev pub goes : ℕ → ℕ → ℕ → Bool
+abbrev goes : ℕ → ℕ → ℕ → Bool
 goes w a b = has w b && not (eqb b a)
 
 module _ (w x a : ℕ) where
-  pub below_none : strikes_below 0 w x a ≡ []
+  below_none : strikes_below 0 w x a ≡ []
   unfolding strikes_below
   below_none = refl
 
-  pub below_goes : (b : ℕ) → goes w a b ≡ true → strikes_below (suc b) w x a ≡ strikes_below b w x a ++ chosen_out x a b ∷ []
+  below_goes : (b : ℕ) → goes w a b ≡ true → strikes_below (suc b) w x a ≡ strikes_below b w x a ++ chosen_out x a b ∷ []
   unfolding strikes_below
   below_goes b h = ap (λ t. strikes_below b w x a ++ cond t (chosen_out x a b ∷ []) []) h
 
-  pub below_stays : (b : ℕ) → goes w a b ≡ false → strikes_below (suc b) w x a ≡ strikes_below b w x a
+  below_stays : (b : ℕ) → goes w a b ≡ false → strikes_below (suc b) w x a ≡ strikes_below b w x a
   unfolding strikes_below
   below_stays b h = ap (λ t. strikes_below b w x a ++ cond t (chosen_out x a b ∷ []) []) h ∙ append-nil (strikes_below b w x a)
 
-  below_grows : (b k : ℕ) → length (strikes_below b w x a) ≤ length (strikes_below (k + b) w x a)
-  below_grows b zero = rw zero-add (omega arith)
-  below_grows b (suc k) =
-      let ih = below_grows b k in
-      ⊎_elim
-      (λ t. let f = ap length (below_goes (k + b) t) in let l = length-append (strikes_below (k + b) w x a) (chosen_out x a (k + b) ∷ []) in rw suc-add (omega arith))
-      (λ t. let f = ap length (below_stays (k + b) t) in rw suc-add (omega arith))
-      (cases_Bool (goes w a (k + b)))
+-- a set with no option below n has none that a choose strikes there
+none_below : (w x a n : ℕ) → ((b : ℕ) → b < n → has w b ≡ false) → strikes_below n w x a ≡ []
+none_below w x a zero low = below_none w x a
+none_below w x a (suc n) low =
+    below_stays w x a n (ap (λ h. h && not (eqb n a)) (low n (omega arith))) ∙ none_below w x a n (λ b l. low b (omega arith))
 
-  -- one that goes comes before the end
-  pub below_room : (b : ℕ) → b < option_limit → goes w a b ≡ true → length (strikes_below b w x a) < length (choose_strikes w x a)
-  below_room b lt h =
-      let n : ℕ = option_limit - suc b in
-      let e : n + suc b ≡ option_limit = omega arith in
-      let g : length (strikes_below (suc b) w x a) ≤ length (strikes_below option_limit w x a) = rw e at (below_grows (suc b) n) in
-      let f = ap length (below_goes b h) in
-      let l = length-append (strikes_below b w x a) (chosen_out x a b ∷ []) in
-      omega arith
+pub none_struck : (x a n : ℕ) → strikes_below n 0 x a ≡ []
+none_struck x a n = none_below 0 x a n (λ b l. none_of_zero b)
+
+-- sets that differ only in options that are not struck have the same strikes
+same_below : (w v x a n : ℕ) → ((b : ℕ) → goes w a b ≡ goes v a b) → strikes_below n w x a ≡ strikes_below n v x a
+same_below w v x a zero same = below_none w x a ∙ sym (below_none v x a)
+same_below w v x a (suc n) same =
+    ⊎_elim
+    (λ t. below_goes w x a n t ∙ ap (λ ss. ss ++ chosen_out x a n ∷ []) (same_below w v x a n same) ∙ sym (below_goes v x a n (sym (same n) ∙ t)))
+    (λ t. below_stays w x a n t ∙ same_below w v x a n same ∙ sym (below_stays v x a n (sym (same n) ∙ t)))
+    (cases_Bool (goes w a n))
+
+-- the chosen option itself makes no difference
+pub others_struck : (w x a n : ℕ) → strikes_below n (set_without w a) x a ≡ strikes_below n w x a
+others_struck w x a n = same_below (set_without w a) w x a n (λ b. ap (λ h. h && not (eqb b a)) (has_without w a b) ∙ twice (has w b) (not (eqb b a)))
+  where
+    twice : (p q : Bool) → ((p && q) && q) ≡ (p && q)
+    twice true true = refl
+    twice true false = refl
+    twice false q = refl
+
+-- the lowest option of a set is struck first
+module _ (w x a low : ℕ) (here : T (has w low)) (least : (b : ℕ) → b < low → has w b ≡ false) (other : low ≡ a → ⊥) where
+  rest_has : (b : ℕ) → has (w - 2 ^ low) b ≡ (has w b && not (eqb b low))
+  rest_has b = has_less w low b here
+
+  at_lowest : strikes_below (suc low) w x a ≡ chosen_out x a low ∷ strikes_below (suc low) (w - 2 ^ low) x a
+  at_lowest =
+      let gone : has (w - 2 ^ low) low ≡ false = rest_has low ∙ ap (λ v. has w low && not v) (eq-eqb low low refl) ∙ and_false (has w low) in
+      let after = below_stays (w - 2 ^ low) x a low (ap (λ h. h && not (eqb low a)) gone) ∙ none_below (w - 2 ^ low) x a low (λ b l. rest_has b ∙ ap (λ h. h && not (eqb b low)) (least b l)) in
+      below_goes w x a low (and_from (has w low) (not (eqb low a)) (yes_T (has w low) here) (not_from_false (eqb low a) (ne_eqb low a other)))
+      ∙ ap (λ ss. ss ++ chosen_out x a low ∷ []) (none_below w x a low least) ∙ ap (λ ss. chosen_out x a low ∷ ss) (sym after)
+
+  pub lowest_first : (n : ℕ) → low < n → strikes_below n w x a ≡ chosen_out x a low ∷ strikes_below n (w - 2 ^ low) x a
+  lowest_first zero l = absurd (omega arith)
+  lowest_first (suc n) l =
+      elim (cases_eq n low) [
+        | inl e ↦ subst (λ k. strikes_below (suc k) w x a ≡ chosen_out x a low ∷ strikes_below (suc k) (w - 2 ^ low) x a) (sym e) at_lowest
+        | inr ne ↦
+            let before = lowest_first n (omega arith) in
+            let same : goes (w - 2 ^ low) a n ≡ goes w a n = ap (λ h. h && not (eqb n a)) (rest_has n ∙ ap (λ v. has w n && not v) (ne_eqb n low ne) ∙ and_true (has w n)) in
+            ⊎_elim
+            (λ t. below_goes w x a n t ∙ ap (λ ss. ss ++ chosen_out x a n ∷ []) before ∙ ap (λ ss. chosen_out x a low ∷ ss) (sym (below_goes (w - 2 ^ low) x a n (same ∙ t))))
+            (λ t. below_stays w x a n t ∙ before ∙ ap (λ ss. chosen_out x a low ∷ ss) (sym (below_stays (w - 2 ^ low) x a n (same ∙ t))))
+            (cases_Bool (goes w a n))
+      ]
 
 -- the set once the others below n are struck: the options from n on, and the chosen one if it is below n
 abbrev low : ℕ → ℕ → ℕ
@@ -135,7 +171,7 @@ module _ (rules : List Rule) (ds : List Decision) (x a : ℕ) (force : InForce d
   after n = set sets x (kept (get_or sets x 0) a n)
 
   read : (v : ℕ) → get_or (set sets x v) x 0 ≡ v
-  read v = get_or-set_same sets x v 0 (field_within sets x a here)
+  read v = get_or-set_same sets x v 0 (is_field sets x a here)
 
   one_more : (n : ℕ) → goes (get_or sets x 0) a n ≡ true → Struck rules ds (after n) (chosen_out x a n ∷ []) (after (suc n))
   one_more n t =

@@ -1,5 +1,5 @@
 -- The law of every draft.
-use Rattle.std.proofs.Common.{◌≡◌, ℕ, zero, suc, ◌+◌, ◌^◌, ◌<◌, ◌≤◌, ◌&&◌, T, eqb, ltb, ◌⊎◌, List, [], ◌∷◌, length, get_or, sym, refl, ap, ◌∙◌, subst, inl, inr, ⊎_elim, arith, eqb→eq, ltb→lt, lt→ltb}
+use Rattle.std.proofs.Common.{◌≡◌, ℕ, zero, suc, ◌+◌, ◌^◌, ◌<◌, ◌≤◌, ◌&&◌, T, eqb, ltb, ◌⊎◌, List, [], ◌∷◌, length, get_or, Ok, Err, sym, refl, ap, ◌∙◌, subst, inl, inr, ⊎_elim, arith, eqb→eq, ltb→lt, lt→ltb}
 use lib.Dec.{eqb_refl}
 use Rattle.std.proofs.lemmas.Bool.{cases_lt}
 use Rattle.faults.specs.declared.EngineFault.TheVariants.{WipedOut}
@@ -9,12 +9,11 @@ use Rattle.network.proofs.Bits.{some_bit}
 use Rattle.propagation.specs.Strikes.{permits, options, InForce}
 use Rattle.propagation.specs.Opening.{Accepted, Emptied, Blamed}
 use Rattle.propagation.specs.declared.record.Decision.{Decision}
-use Rattle.draft.specs.Draft.{State, Event, Run, Step, Settles, opened, decisions, allowed_by, permitted, Admissible}
+use Rattle.draft.specs.Draft.{State, Outcome, Event, Run, Step, Settles, opened, decisions, allowed_by, permitted, Admissible}
 use Rattle.draft.specs.Draft.Settles.{done, wiped, unfit}
 use Rattle.draft.specs.Law.{Balanced, Counts, TellsWipedOut, ToBlame, SettlesExactly, AtLeastAsLoose, ShowsNoLess, Lawful, Law, KeepsTheLaw, LawfulRun}
 use Rattle.draft.specs.declared.types.Call.{Call}
-use Rattle.draft.specs.declared.types.Answer.{Answer}
-use Rattle.draft.specs.declared.types.Answer.TheVariants.{Settled, Refused}
+use Rattle.draft.specs.declared.types.Answer.TheVariants.{Settled}
 use Rattle.draft.proofs.Strikes.{struck_options, struck_once, struck_gone, struck_caused, struck_length, struck_fit}
 use Rattle.draft.proofs.Ledger.{Good, good_after}
 
@@ -89,7 +88,7 @@ module _ (rules : List Rule) (opening : List ℕ) (ok : Accepted rules opening) 
     shown : options t.standing ≡ m
     some : (x : ℕ) → x < length s.opening → (a : ℕ) × T (part t.standing x a)
 
-  left_by_settle : (k m : ℕ) (answer : Answer) (t : State) → answer ≡ Settled k m → Settles rules s answer t → Left k m t
+  left_by_settle : (k m : ℕ) (answer : Outcome) (t : State) → answer ≡ Ok (Settled k m) → Settles rules s answer t → Left k m t
   left_by_settle k m answer t e (done found after fits h l f a is) =
       let standing : t.standing ≡ after = ap (λ (u : State). u.standing) is in
       let struck : k ≡ length found = cc in
@@ -113,7 +112,7 @@ module _ (rules : List Rule) (opening : List ℕ) (ok : Accepted rules opening) 
     empty : Emptied rules (part s.standing) x
     blamed : Blamed rules (part s.standing) x r
 
-  told_by_settle : (x r : ℕ) (answer : Answer) (t : State) → answer ≡ Refused (WipedOut x r) → Settles rules s answer t → Told x r
+  told_by_settle : (x r : ℕ) (answer : Outcome) (t : State) → answer ≡ Err (WipedOut x r) → Settles rules s answer t → Told x r
   told_by_settle x r answer t e (done found after fits h l f a is) = let z : ◌≡◌ {A = ℕ} 0 1 = cc in absurd (omega arith)
   told_by_settle x r answer t e (wiped y q fits l h b a is) =
       let same_field : y ≡ x = cc in
@@ -125,7 +124,7 @@ module _ (rules : List Rule) (opening : List ℕ) (ok : Accepted rules opening) 
       }
   told_by_settle x r answer t e (unfit refused a is) = let z : ◌≡◌ {A = ℕ} 0 1 = cc in absurd (omega arith)
 
-  answered : (answer : Answer) (t : State) → Settles rules s answer t → Counts answer ⊎ TellsWipedOut answer
+  answered : (answer : Outcome) (t : State) → Settles rules s answer t → Counts answer ⊎ TellsWipedOut answer
   answered answer t (done found after fits h l f a is) = inl (length found, (options after, a))
   answered answer t (wiped x r fits l h b a is) = inr (x, (r, a))
   answered answer t (unfit refused a is) = absurd (refused (subst (Accepted rules) (sym g.same) ok))
@@ -260,7 +259,7 @@ pub lawful_run : (rules : List Rule) (opening : List ℕ) → Accepted rules ope
 lawful_run rules opening ok h last run = (run, law rules opening ok h last run)
 
 -- a call that is made, and one that changes nothing
-pub step_keeps_the_law : (rules : List Rule) (s : State) (c : Call) (answer : Answer) (s' : State) → Step rules s c answer s' → KeepsTheLaw rules s s'
+pub step_keeps_the_law : (rules : List Rule) (s : State) (c : Call) (answer : Outcome) (s' : State) → Step rules s c answer s' → KeepsTheLaw rules s s'
 step_keeps_the_law rules s c answer s' step opening ok h run =
     (lawful rules opening ok h s run, lawful rules opening ok (record { asked = c; answered = answer } ∷ h) s' (s, (run, step)))
 

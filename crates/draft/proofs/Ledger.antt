@@ -1,6 +1,7 @@
 -- What holds of a draft after every call, and of each draft that a take back leads to from it.
-use Rattle.std.proofs.Common.{◌≡◌, ℕ, zero, suc, ◌-◌, ◌^◌, ◌<◌, ◌≤◌, Bool, true, false, cond, not, ◌&&◌, T, eqb, ltb, ◌⊎◌, List, [], ◌∷◌, ◌++◌, length, get_or, take, set, Some, None, Option, sym, refl, ap, ◌∙◌, subst, inl, inr, ⊎_elim, arith, eqb→eq}
+use Rattle.std.proofs.Common.{◌≡◌, ℕ, zero, suc, ◌-◌, ◌^◌, ◌<◌, ◌≤◌, Bool, true, false, cond, not, ◌&&◌, T, eqb, ltb, ◌⊎◌, List, [], ◌∷◌, ◌++◌, length, get_or, take, set, Some, None, Err, Option, sym, refl, ap, ◌∙◌, subst, inl, inr, ⊎_elim, arith, eqb→eq}
 use Rattle.std.proofs.lemmas.Nat.{pow_below, pow_pos}
+use Rattle.std.proofs.Math.Bool.{and_assoc}
 use Rattle.std.proofs.lemmas.List.{length-append, length_push, get_or_push, take-append-le, take_at, map-append}
 use Rattle.std.proofs.lemmas.Bool.{ne_eqb, eq-eqb, eqb-false, ltb-true, cases_eq, and_parts, not-false}
 use Rattle.faults.specs.declared.EngineFault.{EngineFault}
@@ -13,14 +14,13 @@ use Rattle.propagation.specs.Opening.{Accepted}
 use Rattle.propagation.specs.declared.record.Strike.{Strike}
 use Rattle.propagation.specs.declared.record.Decision.{Decision}
 use Rattle.propagation.specs.declared.record.Decision.TheVariants as decision
-use Rattle.draft.specs.Draft.{State, Event, Run, Step, Does, opened, settled, decisions, under, permitted, allowed_by, choose_strikes, exclude_strike, refusal, decide, take_back, no_decision, latest_mark}
+use Rattle.draft.specs.Draft.{State, Outcome, Event, Run, Step, Does, opened, settled, decisions, under, permitted, allowed_by, choose_strikes, exclude_strike, refusal, decide, take_back, no_decision, latest_mark}
 use Rattle.draft.specs.Draft.Settles.{done, wiped, unfit}
 use Rattle.draft.specs.declared.types.Taken.{Taken}
 use Rattle.draft.specs.declared.types.Call.{Call}
 use Rattle.draft.specs.declared.types.Call.TheVariants as call
-use Rattle.draft.specs.declared.types.Answer.{Answer}
-use Rattle.draft.specs.declared.types.Answer.TheVariants.{Refused}
-use Rattle.draft.proofs.Sets.{field_within, part_same, part_other, part_without, fit_set, fit_without, filled_set}
+use Rattle.propagation.proofs.Strikes.{part_same, part_other, part_without, is_field}
+use Rattle.draft.proofs.Sets.{fit_set, fit_without, filled_set}
 use Rattle.draft.proofs.Strikes.{struck_left, struck_fit, struck_append, struck_more, in_force_more}
 use Rattle.draft.proofs.Choosing.{choose_struck}
 
@@ -28,11 +28,7 @@ use Rattle.draft.proofs.Choosing.{choose_struck}
 
 permitted_push : (ts : List Taken) (t : Taken) (x a : ℕ) → permitted (decisions (ts ++ (t ∷ []))) x a ≡ (permitted (decisions ts) x a && permits t.decision x a)
 permitted_push [] t x a = and_true (permits t.decision x a)
-permitted_push (u ∷ ts) t x a = ap (λ v. permits u.decision x a && v) (permitted_push ts t x a) ∙ regroup (permits u.decision x a) (permitted (decisions ts) x a) (permits t.decision x a)
-  where
-    regroup : (p q r : Bool) → (p && (q && r)) ≡ ((p && q) && r)
-    regroup true q r = refl
-    regroup false q r = refl
+permitted_push (u ∷ ts) t x a = ap (λ v. permits u.decision x a && v) (permitted_push ts t x a) ∙ sym (and_assoc (permits u.decision x a) (permitted (decisions ts) x a) (permits t.decision x a))
 
 under_more : (opening : List ℕ) (ts : List Taken) (t : Taken) (x a : ℕ) → T (under opening (decisions ts) x a) → T (permits t.decision x a) → T (under opening (decisions (ts ++ (t ∷ []))) x a)
 under_more opening ts t x a h k =
@@ -146,7 +142,7 @@ module _ (rules : List Rule) (opening : List ℕ) where
       → Good rules opening (decide s (decision.Choose x a) (choose_strikes (get_or s.standing x 0) x a) (set s.standing x (2 ^ a)))
   good_chosen s x a g small here =
       let t : Taken = record { decision = decision.Choose x a; mark = length s.strikes } in
-      let within = field_within s.standing x a here in
+      let within = is_field s.standing x a here in
       record {
         same = g.same;
         struck = struck_append rules (decisions (s.taken ++ (t ∷ []))) s.opening s.strikes _ s.standing _
@@ -179,7 +175,7 @@ module _ (rules : List Rule) (opening : List ℕ) where
       → Good rules opening (decide s (decision.Exclude x a) (exclude_strike x a ∷ []) (without s.standing x a))
   good_excluded s x a g here more =
       let t : Taken = record { decision = decision.Exclude x a; mark = length s.strikes } in
-      let within = field_within s.standing x a here in
+      let within = is_field s.standing x a here in
       record {
         same = g.same;
         struck = struck_append rules (decisions (s.taken ++ (t ∷ []))) s.opening s.strikes _ s.standing _
@@ -197,10 +193,10 @@ module _ (rules : List Rule) (opening : List ℕ) where
 
   -- a call
 
-  step_cases : (s : State) (c : Call) (answer : Answer) (s' : State) → Step rules s c answer s' → (s' ≡ s) ⊎ ((refusal s c ≡ None) × Does rules s c answer s')
+  step_cases : (s : State) (c : Call) (answer : Outcome) (s' : State) → Step rules s c answer s' → (s' ≡ s) ⊎ ((refusal s c ≡ None) × Does rules s c answer s')
   step_cases s c answer s' h = go (refusal s c) refl h
     where
-      go : (o : Option EngineFault) → refusal s c ≡ o → elim o as (λ (q : Option EngineFault). Type 0) [ Some why ↦ (answer ≡ Refused why) × (s' ≡ s) | None ↦ Does rules s c answer s' ] → (s' ≡ s) ⊎ ((refusal s c ≡ None) × Does rules s c answer s')
+      go : (o : Option EngineFault) → refusal s c ≡ o → elim o as (λ (q : Option EngineFault). Type 0) [ Some why ↦ (answer ≡ Err why) × (s' ≡ s) | None ↦ Does rules s c answer s' ] → (s' ≡ s) ⊎ ((refusal s c ≡ None) × Does rules s c answer s')
       go (Some why) e k = inl k.1
       go None e k = inr (e, k)
 
@@ -208,7 +204,7 @@ module _ (rules : List Rule) (opening : List ℕ) where
   not_refused true why o e = (let z : ◌≡◌ {A = Bool} true false = cc in z, cc)
   not_refused false why o e = (refl, e)
 
-  does : (n : ℕ) (s : State) (c : Call) (answer : Answer) (s' : State) → Ledger rules opening n s → refusal s c ≡ None → Does rules s c answer s' → (m : ℕ) × Ledger rules opening m s'
+  does : (n : ℕ) (s : State) (c : Call) (answer : Outcome) (s' : State) → Ledger rules opening n s → refusal s c ≡ None → Does rules s c answer s' → (m : ℕ) × Ledger rules opening m s'
   does n s (call.Choose x a) answer s' l e h =
       let p = not_refused _ OutOfRange _ e in
       let q = not_refused _ NotStanding _ p.1 in

@@ -1,6 +1,7 @@
 -- Strike records: what they leave standing, how long they can get, and what undoing them leaves.
-use Rattle.std.proofs.Common.{◌≡◌, ℕ, suc, ◌+◌, ◌-◌, ◌*◌, ◌^◌, ◌<◌, ◌≤◌, Bool, true, false, ◌&&◌, T, leb, List, [], ◌∷◌, ◌++◌, length, get_or, take, drop, set, sym, refl, ap, ◌∙◌, ⊎_elim, arith}
+use Rattle.std.proofs.Common.{◌≡◌, ℕ, suc, ◌+◌, ◌-◌, ◌*◌, ◌^◌, ◌<◌, ◌≤◌, true, false, ◌&&◌, T, leb, List, [], ◌∷◌, ◌++◌, length, get_or, take, drop, set, sym, refl, ap, ◌∙◌, ⊎_elim, arith}
 use lib.Count.{ones-le}
+use Rattle.std.proofs.Math.Bool.{and_assoc}
 use Rattle.std.proofs.lemmas.List.{length-set, get_or-set_same, get_or-set_other, set_past, set-set, set-get_or, take-append-drop, take_more, take_all}
 use Rattle.std.proofs.lemmas.Bool.{cases_lt, cases_eq, and_parts, and_from, leb-true, le-leb}
 use Rattle.network.specs.Network.{option_limit, field_limit, part, Rule}
@@ -10,9 +11,12 @@ use Rattle.network.proofs.Masks.{put_back, without_is}
 use Rattle.propagation.specs.Strikes.{without, left_by, options, Struck}
 use Rattle.propagation.specs.declared.record.Strike.{Strike}
 use Rattle.propagation.specs.declared.record.Decision.{Decision}
-use Rattle.draft.specs.Sound.{Fit, Filled, stood, first_mark, rising, put_all, record_limit}
+use Rattle.propagation.specs.Progress.{Filled}
+use Rattle.propagation.specs.Undo.{Fit, put_all}
+use Rattle.draft.specs.Sound.{stood, first_mark, rising, record_limit}
 use Rattle.draft.specs.declared.types.Taken.{Taken}
-use Rattle.draft.proofs.Sets.{field_within, fit_without, options_without}
+use Rattle.propagation.proofs.Strikes.{is_field, options_without}
+use Rattle.draft.proofs.Sets.{fit_without}
 
 pub length_left_by : (sets : List ℕ) (ss : List Strike) → length (left_by sets ss) ≡ length sets
 length_left_by sets [] = refl
@@ -45,15 +49,11 @@ left_by_le sets (s ∷ rest) y =
     let one = without_le sets s.field s.option y in
     omega arith
 
-and_assoc : (a b c : Bool) → (a && (b && c)) ≡ ((a && b) && c)
-and_assoc true b c = refl
-and_assoc false b c = refl
-
 pub stood_append : (sets : List ℕ) (ss ts : List Strike) → stood sets (ss ++ ts) ≡ (stood sets ss && stood (left_by sets ss) ts)
 stood_append sets [] ts = refl
 stood_append sets (s ∷ rest) ts =
     ap (λ b. part sets s.field s.option && b) (stood_append (without sets s.field s.option) rest ts) ∙
-    and_assoc (part sets s.field s.option) (stood (without sets s.field s.option) rest) (stood (left_by (without sets s.field s.option) rest) ts)
+    sym (and_assoc (part sets s.field s.option) (stood (without sets s.field s.option) rest) (stood (left_by (without sets s.field s.option) rest) ts))
 
 pub struck_all_stood : (rules : List Rule) (ds : List Decision) (sets : List ℕ) (ss : List Strike) (last : List ℕ) → Struck rules ds sets ss last → stood sets ss ≡ true
 struck_all_stood rules ds sets [] last h = refl
@@ -84,7 +84,7 @@ rising_push [] t top = elim (leb t.mark top) as (λ b. (b && true) ≡ b) [ true
 rising_push (u ∷ ts) t top =
     ap (λ m. leb u.mark m && rising (ts ++ t ∷ []) top) (first_mark_push ts t top) ∙
     ap (λ b. leb u.mark (first_mark ts t.mark) && b) (rising_push ts t top) ∙
-    and_assoc (leb u.mark (first_mark ts t.mark)) (rising ts t.mark) (leb t.mark top)
+    sym (and_assoc (leb u.mark (first_mark ts t.mark)) (rising ts t.mark) (leb t.mark top))
 
 -- the marks under a longer record
 pub rising_longer : (ts : List Taken) (top more : ℕ) → top ≤ more → rising ts top ≡ true → rising ts more ≡ true
@@ -118,7 +118,7 @@ put_all_undoes sets (s ∷ rest) fit h =
     let here : T (part sets x a) = T_yes _ p.0 in
     ap (λ v. set v x (set_with (get_or v x 0) a)) (put_all_undoes (without sets x a) rest (fit_without sets x a (2 ^ option_limit) fit) p.1) ∙
     set-set sets x (w - 2 ^ a) (set_with (get_or (without sets x a) x 0) a) ∙
-    ap (λ v. set sets x (set_with v a)) (get_or-set_same sets x (w - 2 ^ a) 0 (field_within sets x a here) ∙ sym (without_is w a here)) ∙
+    ap (λ v. set sets x (set_with v a)) (get_or-set_same sets x (w - 2 ^ a) 0 (is_field sets x a here) ∙ sym (without_is w a here)) ∙
     ap (λ v. set sets x v) (put_back w a (fit x) here) ∙
     set-get_or sets x 0
 

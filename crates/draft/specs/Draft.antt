@@ -1,5 +1,5 @@
 -- A draft by what it stands for, what each call does to it, and the runs of calls.
-use Rattle.std.specs.Prelude.{◌≡◌, ℕ, zero, suc, ◌-◌, ◌^◌, ◌<◌, Bool, true, cond, not, ◌&&◌, T, List, [], ◌∷◌, ◌++◌, map, length, take, Some, None, Option, ◌==◌, nat_lt, slice_index, slice_index_or, slice_set}
+use Rattle.std.specs.Prelude.{◌≡◌, ℕ, zero, suc, ◌-◌, ◌^◌, ◌<◌, Bool, true, cond, not, ◌&&◌, T, List, [], ◌∷◌, ◌++◌, map, length, take, Some, None, Ok, Err, Option, Result, ◌==◌, nat_lt, slice_index, slice_index_or, slice_set}
 use Rattle.faults.specs.declared.EngineFault.{EngineFault}
 use Rattle.faults.specs.declared.EngineFault.TheVariants.{NotOpened, OutOfRange, NotStanding, LastOption, TooManyDecisions, NoDecision, WipedOut}
 use Rattle.network.specs.Network.{option_limit, has, Rule, Part, part, rule_at, Largest}
@@ -13,7 +13,7 @@ use Rattle.draft.specs.declared.types.Taken.{Taken}
 use Rattle.draft.specs.declared.types.Call.{Call}
 use Rattle.draft.specs.declared.types.Call.TheVariants as call
 use Rattle.draft.specs.declared.types.Answer.{Answer}
-use Rattle.draft.specs.declared.types.Answer.TheVariants.{Done, Settled, Shown, Refused}
+use Rattle.draft.specs.declared.types.Answer.TheVariants.{Done, Settled, Shown}
 
 -- how many decisions can be in force
 abbrev pub decision_limit : ℕ
@@ -110,14 +110,18 @@ take_back s =
 abbrev pub settled : State → List Strike → List ℕ → State
 settled s found after = record { opening = s.opening; taken = s.taken; strikes = s.strikes ++ found; standing = after }
 
+-- how a call comes out: an answer, or why it was refused
+abbrev pub Outcome : Type 0
+Outcome = Result Answer EngineFault
+
 -- a settle that is done, one that is wiped out, and one over rules that the opening does not fit
-pub data Settles (rules : List Rule) (s : State) (answer : Answer) (s' : State) : Type 0 where
+pub data Settles (rules : List Rule) (s : State) (answer : Outcome) (s' : State) : Type 0 where
   done : (found : List Strike) (after : List ℕ) →
       Accepted rules s.opening →
       Struck rules (decisions s.taken) s.standing found after →
       Largest rules (part s.standing) (part after) →
       ((x : ℕ) → x < length after → 0 < slice_index after x) →
-      answer ≡ Settled (length found) (options after) →
+      answer ≡ Ok (Settled (length found) (options after)) →
       s' ≡ settled s found after →
       Settles rules s answer s'
   wiped : (x r : ℕ) →
@@ -125,34 +129,34 @@ pub data Settles (rules : List Rule) (s : State) (answer : Answer) (s' : State) 
       x < length s.opening →
       Emptied rules (part s.standing) x →
       Blamed rules (part s.standing) x r →
-      answer ≡ Refused (WipedOut x r) →
+      answer ≡ Err (WipedOut x r) →
       s' ≡ s →
       Settles rules s answer s'
   unfit :
       (Accepted rules s.opening → ⊥) →
-      answer ≡ Refused NotOpened →
+      answer ≡ Err NotOpened →
       s' ≡ s →
       Settles rules s answer s'
 
 -- what a call that nothing refuses does
-abbrev pub Does : List Rule → State → Call → Answer → State → Type 0
+abbrev pub Does : List Rule → State → Call → Outcome → State → Type 0
 Does rules s (call.Choose x a) answer s' =
-    (answer ≡ Done) × (s' ≡ decide s (decision.Choose x a) (choose_strikes (slice_index s.standing x) x a) (slice_set s.standing x (2 ^ a)))
+    (answer ≡ Ok Done) × (s' ≡ decide s (decision.Choose x a) (choose_strikes (slice_index s.standing x) x a) (slice_set s.standing x (2 ^ a)))
 Does rules s (call.Exclude x a) answer s' =
-    (answer ≡ Done) × (s' ≡ decide s (decision.Exclude x a) (exclude_strike x a ∷ []) (without s.standing x a))
+    (answer ≡ Ok Done) × (s' ≡ decide s (decision.Exclude x a) (exclude_strike x a ∷ []) (without s.standing x a))
 Does rules s call.Settle answer s' = Settles rules s answer s'
-Does rules s call.TakeBack answer s' = (answer ≡ Done) × (s' ≡ take_back s)
-Does rules s (call.Show x) answer s' = (answer ≡ Shown (record { word = slice_index s.standing x })) × (s' ≡ s)
+Does rules s call.TakeBack answer s' = (answer ≡ Ok Done) × (s' ≡ take_back s)
+Does rules s (call.Show x) answer s' = (answer ≡ Ok (Shown (record { word = slice_index s.standing x }))) × (s' ≡ s)
 
 -- one call: the first refusal that fits changes nothing, else the call is done
-abbrev pub Step : List Rule → State → Call → Answer → State → Type 0
+abbrev pub Step : List Rule → State → Call → Outcome → State → Type 0
 Step rules s c answer s' =
-    elim (refusal s c) [ Some why ↦ (answer ≡ Refused why) × (s' ≡ s) | None ↦ Does rules s c answer s' ]
+    elim (refusal s c) [ Some why ↦ (answer ≡ Err why) × (s' ≡ s) | None ↦ Does rules s c answer s' ]
 
--- a call with its answer
+-- a call with how it came out
 pub record Event : Type 0 where
   pub asked : Call
-  pub answered : Answer
+  pub answered : Outcome
 
 -- a list of calls with their answers, the latest first, leads from one state to another
 abbrev pub Run : List Rule → State → List Event → State → Type 0

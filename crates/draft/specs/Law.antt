@@ -1,5 +1,5 @@
 -- What holds of every draft, over any book's rules, at its opening and after any list of calls.
-use Rattle.std.specs.Prelude.{◌≡◌, ℕ, ◌+◌, ◌<◌, T, ◌⊎◌, List, [], ◌∷◌, length, take, ◌≢◌, slice_index_or}
+use Rattle.std.specs.Prelude.{◌≡◌, ℕ, ◌+◌, ◌<◌, T, ◌⊎◌, List, [], ◌∷◌, length, take, Ok, Err, ◌≢◌, slice_index_or}
 use Rattle.faults.specs.declared.EngineFault.TheVariants.{WipedOut}
 use Rattle.network.specs.Network.{Rule, Part, part, Within, Largest, NoStricter}
 use Rattle.network.specs.declared.rules.Side.{Side}
@@ -7,10 +7,9 @@ use Rattle.propagation.specs.Strikes.{InForce, UnsupportedAt, options, left_by, 
 use Rattle.propagation.specs.Opening.{Accepted, Emptied, IsWipedOut}
 use Rattle.propagation.specs.declared.record.Decision.{Decision}
 use Rattle.propagation.specs.declared.record.Strike.{Strike}
-use Rattle.draft.specs.Draft.{State, Event, Run, Step, opened, decisions, allowed_by, Admissible, Honours}
+use Rattle.draft.specs.Draft.{State, Outcome, Event, Run, Step, opened, decisions, allowed_by, Admissible, Honours}
 use Rattle.draft.specs.declared.types.Call.TheVariants as call
-use Rattle.draft.specs.declared.types.Answer.{Answer}
-use Rattle.draft.specs.declared.types.Answer.TheVariants.{Settled, Refused}
+use Rattle.draft.specs.declared.types.Answer.TheVariants.{Settled}
 
 -- the record and what stands account for every option of the opening
 pub record Balanced (rules : List Rule) (s : State) : Type 0 where
@@ -24,12 +23,12 @@ pub record Balanced (rules : List Rule) (s : State) : Type 0 where
   -- an admissible configuration that honours the decisions in force has all its options standing
   pub kept : (c : ℕ → ℕ) → Admissible rules c → Honours s c → (x : ℕ) → x < length s.opening → T (part s.standing x (c x))
 
--- an answer that tells the two numbers of a done settle, and one that tells that it was wiped out
-abbrev pub Counts : Answer → Type 0
-Counts answer = (k : ℕ) × ((m : ℕ) × (answer ≡ Settled k m))
+-- an outcome that tells the two numbers of a done settle, and one that tells that it was wiped out
+abbrev pub Counts : Outcome → Type 0
+Counts answer = (k : ℕ) × ((m : ℕ) × (answer ≡ Ok (Settled k m)))
 
-abbrev pub TellsWipedOut : Answer → Type 0
-TellsWipedOut answer = (x : ℕ) × ((r : ℕ) × (answer ≡ Refused (WipedOut x r)))
+abbrev pub TellsWipedOut : Outcome → Type 0
+TellsWipedOut answer = (x : ℕ) × ((r : ℕ) × (answer ≡ Err (WipedOut x r)))
 
 -- rule r is one of field x under which an option that stands there has no partner in the largest part
 abbrev pub ToBlame : List Rule → State → ℕ → ℕ → Type 0
@@ -39,16 +38,16 @@ ToBlame rules s x r =
 -- a settle from s is exact against the opening sets under the decisions in force
 pub record SettlesExactly (rules : List Rule) (s : State) : Type 0 where
   -- it is done, or refused as wiped out
-  pub answers : (answer : Answer) (s' : State) → Step rules s call.Settle answer s' → Counts answer ⊎ TellsWipedOut answer
+  pub answers : (answer : Outcome) (s' : State) → Step rules s call.Settle answer s' → Counts answer ⊎ TellsWipedOut answer
   -- done, it leaves the largest arc-consistent part
-  pub largest : (k m : ℕ) (s' : State) → Step rules s call.Settle (Settled k m) s' → Largest rules (allowed_by s) (part s'.standing)
+  pub largest : (k m : ℕ) (s' : State) → Step rules s call.Settle (Ok (Settled k m)) s' → Largest rules (allowed_by s) (part s'.standing)
   -- its two numbers are true: k options were struck, and m now stand
-  pub struck : (k m : ℕ) (s' : State) → Step rules s call.Settle (Settled k m) s' → options s.standing ≡ options s'.standing + k
-  pub standing : (k m : ℕ) (s' : State) → Step rules s call.Settle (Settled k m) s' → options s'.standing ≡ m
+  pub struck : (k m : ℕ) (s' : State) → Step rules s call.Settle (Ok (Settled k m)) s' → options s.standing ≡ options s'.standing + k
+  pub standing : (k m : ℕ) (s' : State) → Step rules s call.Settle (Ok (Settled k m)) s' → options s'.standing ≡ m
   -- it is wiped out exactly when that part has an empty field; the field that it names is one, and the rule is to blame
-  pub done_only : (k m : ℕ) (s' : State) → Step rules s call.Settle (Settled k m) s' → IsWipedOut rules (length s.opening) (allowed_by s) → ⊥
-  pub named_field : (x r : ℕ) (s' : State) → Step rules s call.Settle (Refused (WipedOut x r)) s' → (x < length s.opening) × Emptied rules (allowed_by s) x
-  pub named_rule : (x r : ℕ) (s' : State) → Step rules s call.Settle (Refused (WipedOut x r)) s' → ToBlame rules s x r
+  pub done_only : (k m : ℕ) (s' : State) → Step rules s call.Settle (Ok (Settled k m)) s' → IsWipedOut rules (length s.opening) (allowed_by s) → ⊥
+  pub named_field : (x r : ℕ) (s' : State) → Step rules s call.Settle (Err (WipedOut x r)) s' → (x < length s.opening) × Emptied rules (allowed_by s) x
+  pub named_rule : (x r : ℕ) (s' : State) → Step rules s call.Settle (Err (WipedOut x r)) s' → ToBlame rules s x r
 
 -- the second draft is at least as loose as the first
 pub record AtLeastAsLoose (rules rules' : List Rule) (s s' : State) : Type 0 where
@@ -62,9 +61,9 @@ pub record AtLeastAsLoose (rules rules' : List Rule) (s s' : State) : Type 0 whe
 -- the second draft shows no less than the first
 pub record ShowsNoLess (rules rules' : List Rule) (s s' : State) : Type 0 where
   -- right after a done settle of each it shows every option that the first shows
-  pub shown : (k m k' m' : ℕ) (t t' : State) → Step rules s call.Settle (Settled k m) t → Step rules' s' call.Settle (Settled k' m') t' → Within (part t.standing) (part t'.standing)
+  pub shown : (k m k' m' : ℕ) (t t' : State) → Step rules s call.Settle (Ok (Settled k m)) t → Step rules' s' call.Settle (Ok (Settled k' m')) t' → Within (part t.standing) (part t'.standing)
   -- settle on it is wiped out only if settle on the first is
-  pub wiped_out : (x r : ℕ) (answer : Answer) (t t' : State) → Step rules' s' call.Settle (Refused (WipedOut x r)) t' → Step rules s call.Settle answer t → TellsWipedOut answer
+  pub wiped_out : (x r : ℕ) (answer : Outcome) (t t' : State) → Step rules' s' call.Settle (Err (WipedOut x r)) t' → Step rules s call.Settle answer t → TellsWipedOut answer
 
 -- a draft that some history led to, from an accepted opening
 abbrev pub Reached : List Rule → State → Type 0

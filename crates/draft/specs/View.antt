@@ -1,82 +1,91 @@
--- A draft's fields as the state that the calls speak of, and how a draft answers a call.
-use Rattle.std.specs.Prelude.{◌≡◌, ℕ, ◌<◌, ◌≤◌, true, false, ◌≢◌, List, [], length, Some, Ok, Err, vec_items, vec_capacity, Decides, Result, slice_index}
-use Rattle.agenda.specs.declared.agenda.Agenda.{Ghosts as AgendaGhosts}
-use Rattle.books.specs.declared.book.Book.{Ghosts as BookGhosts}
+-- A draft as the state that the calls speak of, and how a draft answers a call.
+use Rattle.std.specs.Prelude.{◌≡◌, ℕ, ◌<◌, ◌≤◌, true, false, List, length, Some, is_ok, Ok, Err, vec_items, Decides, Result, Vec, Bool, slice_index}
+use Rattle.std.specs.declared.alloc.Global.{Global}
 use Rattle.faults.specs.declared.EngineFault.{EngineFault}
-use Rattle.faults.specs.declared.EngineFault.TheVariants.{NotOpened}
-use Rattle.network.specs.Network.{option_limit, Rule, rule_at, part, words}
+use Rattle.faults.specs.declared.EngineFault.TheVariants.{NotOpened, OutOfRange}
+use Rattle.network.specs.Network.{option_limit, Rule, part, words}
 use Rattle.network.specs.declared.options.OptionSet.{OptionSet}
 use Rattle.propagation.specs.Opening.{Accepted}
-use Rattle.draft.specs.Draft.{State, Step, refusal, opened, decision_limit}
-use Rattle.draft.specs.Sound.{record_limit}
+use Rattle.draft.specs.Draft.{State, Outcome, Step, refusal, opened}
+use Rattle.draft.specs.Sound.{state_of}
 use Rattle.draft.specs.declared.draft.Draft.{Draft}
-use Rattle.draft.specs.declared.draft.opens.Memory.{Memory}
+use Rattle.draft.specs.declared.draft.Opened.{Opened}
 use Rattle.draft.specs.declared.draft.opens.Unopened.{Unopened}
 use Rattle.draft.specs.declared.types.Call.{Call}
 use Rattle.draft.specs.declared.types.Call.TheVariants as call
-use Rattle.draft.specs.declared.types.Answer.{Answer}
-use Rattle.draft.specs.declared.types.Answer.TheVariants.{Done, Settled, Shown, Refused}
+use Rattle.draft.specs.declared.types.Answer.TheVariants.{Done, Settled, Shown}
 
--- what a draft stands for
-abbrev pub view : {B W : Type 0} {bs : BookGhosts B} {ws : AgendaGhosts W} → Draft B W bs ws → State
-view d = record { opening = words (vec_items d.opening); taken = vec_items d.taken; strikes = vec_items d.strikes; standing = words (vec_items d.standing) }
+-- what an open draft holds
+abbrev pub held : Opened → State
+held o = state_of (vec_items o.opening) (vec_items o.taken) (vec_items o.strikes) (vec_items o.standing)
 
--- the answer that the result of a choose, an exclude or a take back stands for, and that of a show
-abbrev pub done : Result (Unit {0}) EngineFault → Answer
-done (Ok x) = Done
-done (Err why) = Refused why
+-- what an opening led to: sets that were refused stay as they were handed in
+abbrev pub led_to : Result Opened (Vec OptionSet Global) → State
+led_to (Ok o) = held o
+led_to (Err sets) = opened (words (vec_items sets))
 
-abbrev pub shown : Result OptionSet EngineFault → Answer
-shown (Ok set) = Shown set
-shown (Err why) = Refused why
+-- what a draft stands for, and whether its opening was accepted
+abbrev pub view : {B W : Type 0} → Draft B W → State
+view d = led_to d.opened
+
+abbrev pub is_open : {B W : Type 0} → Draft B W → Bool
+is_open d = is_ok d.opened
+
+-- what the result of a choose, an exclude or a take back says as the outcome of any call, and that of a show
+abbrev pub done : Result (Unit {0}) EngineFault → Outcome
+done (Ok x) = Ok Done
+done (Err why) = Err why
+
+abbrev pub shown : Result OptionSet EngineFault → Outcome
+shown (Ok set) = Ok (Shown set)
+shown (Err why) = Err why
 
 -- and that of a settle: how many options it struck, and how many now stand
-abbrev pub settled : Result (ℕ × ℕ) EngineFault → Answer
-settled (Ok counts) = Settled counts.0 counts.1
-settled (Err why) = Refused why
+abbrev pub settled : Result (ℕ × ℕ) EngineFault → Outcome
+settled (Ok counts) = Ok (Settled counts.0 counts.1)
+settled (Err why) = Err why
 
 -- a draft made from a refused opening refuses every call; any other takes one step
-pub record Answers {B W : Type 0} {bs : BookGhosts B} {ws : AgendaGhosts W} (rules : List Rule) (d : Draft B W bs ws) (c : Call) (answer : Answer) (d' : Draft B W bs ws) : Type 0 where
-  pub same : d'.accepted ≡ d.accepted
-  pub step : d.accepted ≡ true → Step rules (view d) c answer (view d')
-  pub shut : d.accepted ≡ false → (answer ≡ Refused NotOpened) × (view d' ≡ view d)
+pub record Answers {B W : Type 0} (rules : List Rule) (d : Draft B W) (c : Call) (answer : Outcome) (d' : Draft B W) : Type 0 where
+  pub same : is_open d' ≡ is_open d
+  pub step : is_open d ≡ true → Step rules (view d) c answer (view d')
+  pub shut : is_open d ≡ false → (answer ≡ Err NotOpened) × (view d' ≡ view d)
 
--- the draft is open, and option a stands in the set of field x
-pub record Found {B W : Type 0} {bs : BookGhosts B} {ws : AgendaGhosts W} (d : Draft B W bs ws) (x a : ℕ) (set : OptionSet) : Type 0 where
-  pub accepted : d.accepted ≡ true
-  pub field : x < length (view d).opening
+-- field x has the set, and there is no field x
+pub record StandsIn (s : State) (x : ℕ) (set : OptionSet) : Type 0 where
+  pub field : x < length s.opening
+  pub word : set.word ≡ slice_index s.standing x
+
+pub record NoField (s : State) (x : ℕ) (why : EngineFault) : Type 0 where
+  pub past : length s.opening ≤ x
+  pub refused : why ≡ OutOfRange
+
+-- option a stands in the set of field x
+pub record Found (s : State) (x a : ℕ) (set : OptionSet) : Type 0 where
+  pub field : x < length s.opening
   pub option : a < option_limit
-  pub stands : part (view d).standing x a ≡ true
-  pub word : set.word ≡ slice_index (view d).standing x
+  pub stands : part s.standing x a ≡ true
+  pub word : set.word ≡ slice_index s.standing x
 
--- the draft is not open, or this is the first refusal that fits any decision on option a of field x
-pub record NotFound {B W : Type 0} {bs : BookGhosts B} {ws : AgendaGhosts W} (d : Draft B W bs ws) (x a : ℕ) (why : EngineFault) : Type 0 where
-  pub shut : d.accepted ≡ false → why ≡ NotOpened
-  pub chosen : d.accepted ≡ true → refusal (view d) (call.Choose x a) ≡ Some why
-  pub excluded : d.accepted ≡ true → refusal (view d) (call.Exclude x a) ≡ Some why
+-- the first refusal that fits any decision on option a of field x
+pub record NotFound (s : State) (x a : ℕ) (why : EngineFault) : Type 0 where
+  pub chosen : refusal s (call.Choose x a) ≡ Some why
+  pub excluded : refusal s (call.Exclude x a) ≡ Some why
 
 -- nothing but what the draft stands for has changed
-pub record Untouched {B W : Type 0} {bs : BookGhosts B} {ws : AgendaGhosts W} (d d' : Draft B W bs ws) : Type 0 where
+pub record Untouched {B W : Type 0} (d d' : Draft B W) : Type 0 where
   pub book : d'.book ≡ d.book
   pub agenda : d'.agenda ≡ d.agenda
 
--- every rule lies between two of n fields
-abbrev pub Between : List Rule → ℕ → Type 0
-Between rules n = (r : ℕ) → r < length rules → ((rule_at rules r).left < n) × (((rule_at rules r).right < n) × ((rule_at rules r).left ≢ (rule_at rules r).right))
-
--- the memory of a draft as it is opened: the sets twice, and room for a full record and for all the decisions that can be in force
-pub record Ready (sets : List OptionSet) (m : Memory) : Type 0 where
-  pub opening : vec_items m.opening ≡ sets
-  pub standing : vec_items m.standing ≡ sets
-  pub strikes : vec_items m.strikes ≡ []
-  pub room : record_limit ≤ vec_capacity m.strikes
-  pub taken : vec_items m.taken ≡ []
-  pub places : decision_limit ≤ vec_capacity m.taken
+-- sets are opened just if they are accepted, and refused ones are kept
+pub record OpensSets (rules : List Rule) (sets : List ℕ) (led : Result Opened (Vec OptionSet Global)) : Type 0 where
+  pub accepted : Decides (is_ok led) (Accepted rules sets)
+  pub state : led_to led ≡ opened sets
 
 -- a new draft has the book that was handed in, and is accepted just if its opening is
-pub record Opens {B W : Type 0} {bs : BookGhosts B} {ws : AgendaGhosts W} (handed : B) (rules : List Rule) (sets : List ℕ) (d : Draft B W bs ws) : Type 0 where
+pub record Opens {B W : Type 0} (handed : B) (rules : List Rule) (sets : List ℕ) (d : Draft B W) : Type 0 where
   pub book : d.book ≡ handed
-  pub accepted : Decides d.accepted (Accepted rules sets)
+  pub accepted : Decides (is_open d) (Accepted rules sets)
   pub state : view d ≡ opened sets
 
 -- a draft that was not made gives back what was handed in

@@ -1,12 +1,11 @@
 // A draft: what it opened with, the decisions in force, the strike record and what stands.
 
-ghost use Rattle.std.specs.Prelude.{◌≡◌, ◌<◌, ◌≤◌, true, vec_len, vec_capacity};
-ghost use Rattle.network.specs.Network.{words, field_limit};
-ghost use Rattle.propagation.specs.Strikes.{left_by};
+ghost use Rattle.std.specs.Prelude.{◌≤◌, vec_capacity};
 ghost use Rattle.draft.specs.Draft.{decision_limit};
-ghost use Rattle.draft.specs.Sound.{Fit, Filled, stood, rising, record_limit};
+ghost use Rattle.draft.specs.Sound.{Sound, state_of, record_limit};
 
 pub mod calls;
+mod decides;
 pub mod opens;
 pub mod performs;
 pub mod reads;
@@ -22,29 +21,27 @@ use propagation::record::Strike;
 // How many decisions can be in force.
 pub const DECISIONS: usize = 64;
 
-// How many entries a record can have: every option of every field can be struck once.
-pub const STRIKES: usize = 512;
+// How many entries a record can have.
+pub const STRIKES: usize = propagation::record::STRIKES;
 
-// A draft over a book; settling works through the agenda. One that was made from a refused opening refuses every call.
-// The record has room for every option that stands, and the decisions for as many as can be in force, so that no call
-// wants for memory.
+// What an accepted opening leads to. The record has room for every option that stands, and the decisions for as many as
+// can be in force, so that no call wants for memory.
 #[derive(Drop)]
-pub struct Draft<B: Book, W: Agenda> {
-    book: B,
-    agenda: W,
-    accepted: bool,
+struct Opened {
     opening: Vec<OptionSet>,
     standing: Vec<OptionSet>,
     strikes: Vec<Strike>,
     taken: Vec<Taken>,
-    ghost some: { accepted ≡ true → 0 < vec_len opening },
-    ghost few: { accepted ≡ true → vec_len opening ≤ field_limit },
-    ghost fit: { accepted ≡ true → Fit (words opening.items) },
-    ghost filled: { accepted ≡ true → Filled (words standing.items) },
-    ghost stands: { accepted ≡ true → words standing.items ≡ left_by (words opening.items) strikes.items },
-    ghost struck: { accepted ≡ true → stood (words opening.items) strikes.items ≡ true },
-    ghost decided: { accepted ≡ true → vec_len taken ≤ decision_limit },
-    ghost marks: { accepted ≡ true → rising taken.items (vec_len strikes) ≡ true },
-    ghost room: { accepted ≡ true → record_limit ≤ vec_capacity strikes },
-    ghost places: { accepted ≡ true → decision_limit ≤ vec_capacity taken },
+    ghost sound: { Sound (state_of opening.items taken.items strikes.items standing.items) },
+    ghost room: { record_limit ≤ vec_capacity strikes },
+    ghost places: { decision_limit ≤ vec_capacity taken },
+}
+
+// A draft over a book; settling works through the agenda. One whose opening was refused holds the sets that were handed
+// in, and refuses every call.
+#[derive(Drop)]
+pub struct Draft<B: Book, W: Agenda> {
+    book: B,
+    agenda: W,
+    opened: Result<Opened, Vec<OptionSet>>,
 }

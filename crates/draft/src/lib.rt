@@ -12,8 +12,6 @@ mod settling;
 pub mod types;
 
 // The law holds at the opening and after each call of every run.
-pub fn law_holds() -> u8
+pub fn law_holds()
     ensures { Law }
-{
-    0
-}
+{}

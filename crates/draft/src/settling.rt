@@ -16,6 +16,7 @@ use propagation::record::{Strike, WipedOut};
 use propagation::undo::put_back;
 
 // Strikes what has no partner, or leaves everything as it was where a field would become empty.
+// It takes what `propagate` takes: a struct of the four would be made for this call and taken apart in it.
 pub(crate) fn settle_sets<B: Book, W: Agenda>(
     sets: &mut [OptionSet],
     book: &mut B,
@@ -46,9 +47,5 @@ pub(crate) fn count_options(sets: &[OptionSet]) -> u16
     requires { length sets.now ≤ field_limit }
     ensures { result ≡ options (words sets.now) }
 {
-    let mut count = 0u16;
-    for set in sets {
-        count += u16::from(set.len());
-    }
-    count
+    sets.iter().map(|set| u16::from(set.len())).sum()
 }

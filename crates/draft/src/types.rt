@@ -1,6 +1,5 @@
 // What a draft is asked, what it answers, and what it notes of a decision.
 
-use faults::EngineFault;
 use network::options::OptionSet;
 use propagation::record::Decision;
 
@@ -11,7 +10,7 @@ pub struct Taken {
     pub mark: usize,
 }
 
-// One call on a draft.
+// One call on a draft. A choose or an exclude is no `Decision` yet: it may be refused.
 #[derive(Clone, Copy, PartialEq, Eq, Debug)]
 pub enum Call {
     // leave only the option standing in the field
@@ -26,7 +25,7 @@ pub enum Call {
     Show { field: u8 },
 }
 
-// The answer to a call.
+// The answer to a call that was not refused.
 #[derive(Clone, Copy, PartialEq, Eq, Debug)]
 pub enum Answer {
     // a decision was taken or taken back
@@ -35,6 +34,4 @@ pub enum Answer {
     Settled(u16, u16),
     // what stands in the field that was asked for
     Shown(OptionSet),
-    // why nothing was done
-    Refused(EngineFault),
 }

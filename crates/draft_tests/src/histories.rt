@@ -1,6 +1,7 @@
 // Long histories of all five calls. After each call the sums are checked; after each settle what stands is compared with
 // a plain computation from the opening sets and the decisions in force.
 
+use crate::opened::open;
 use crate::plain;
 use agenda::agenda::Agenda;
 use agenda::first::FirstCome;
@@ -61,6 +62,7 @@ struct Seen {
     refused: u16,
 }
 
+// Each crate of tests has its own, beside its rules: a crate for one literal would be no plainer.
 fn rule(left: u8, right: u8, kind: Kind, difference: i8) -> FormulaRule {
     FormulaRule {
         left,
@@ -94,15 +96,6 @@ fn expected<B: Book, W: Agenda>(draft: &Draft<B, W>) -> [OptionSet; FIELDS] {
     sets
 }
 
-fn check_sets(rt: &impl Abort, left: &[OptionSet], right: &[OptionSet]) {
-    assert_eq!(rt; left.len(), right.len());
-    for x in 0..left.len() {
-        if x < right.len() {
-            assert_eq!(rt; left[x], right[x]);
-        }
-    }
-}
-
 // Options standing and entries on the record add up to the options at opening, and nothing on record stands.
 fn check_balance<B: Book, W: Agenda>(rt: &impl Abort, draft: &Draft<B, W>) -> Result<(), Fail> {
     let standing = draft.standing();
@@ -111,11 +104,10 @@ fn check_balance<B: Book, W: Agenda>(rt: &impl Abort, draft: &Draft<B, W>) -> Re
         plain::total(draft.opening())
     );
     for strike in draft.record() {
-        let x = usize::from(strike.field);
-        if x >= standing.len() {
+        let Some(set) = standing.get(usize::from(strike.field)) else {
             return Err(Fail::new("a strike of no field"));
-        }
-        assert!(rt; !standing[x].contains(strike.option));
+        };
+        assert!(rt; !set.contains(strike.option));
     }
     Ok(())
 }
@@ -126,35 +118,35 @@ fn check_call<B: Book, W: Agenda>(
     draft: &mut Draft<B, W>,
     call: Call,
     seen: &mut Seen,
-) -> Result<Answer, Fail> {
+) -> Result<(), Fail> {
     let entries = draft.record().len();
     let answer = draft.perform(call);
     check_balance(rt, draft)?;
     match answer {
-        Answer::Settled(struck, standing) => {
+        Ok(Answer::Settled(struck, standing)) => {
             seen.settled = seen.settled.saturating_add(1);
             let sets = expected(draft);
-            check_sets(rt, draft.standing(), &sets);
+            assert_eq!(rt; draft.standing(), sets.as_slice());
             assert_eq!(rt; usize::from(standing), plain::total(&sets));
             assert_eq!(rt;
                 usize::from(struck).saturating_add(entries),
                 draft.record().len()
             );
         }
-        Answer::Refused(EngineFault::WipedOut { field, .. }) => {
+        Err(EngineFault::WipedOut { field, .. }) => {
             seen.wiped_out = seen.wiped_out.saturating_add(1);
             let x = usize::from(field);
             assert!(rt; x < FIELDS);
             assert!(rt; expected(draft)[x].is_empty());
             assert_eq!(rt; draft.record().len(), entries);
         }
-        Answer::Refused(_) => {
+        Err(_) => {
             seen.refused = seen.refused.saturating_add(1);
             assert_eq!(rt; draft.record().len(), entries);
         }
-        _ => {}
+        Ok(_) => {}
     }
-    Ok(answer)
+    Ok(())
 }
 
 // A history of that many calls.
@@ -181,22 +173,20 @@ fn check_history<B: Book, W: Agenda>(
 #[test]
 fn balances_over_formula_rules(rt: HostRuntime) -> Result<(), Fail> {
     let rules = rules();
-    let Ok(mut draft) = Draft::open(
+    let mut draft = open(
         rt.alloc(),
         &opening(),
         FormulaBook::new(&rules),
         LowestUrgency::new(),
-    ) else {
-        return Err(Fail::new("no memory"));
-    };
+    )?;
     check_history(&rt, &mut draft, &mut Numbers { state: 1 }, 3000)
 }
 
 // The rows of a table rule that allows all pairs of two different options.
 fn unequal_rows() -> [OptionSet; 32] {
     let mut rows = [OptionSet::from(u32::MAX); 32];
-    for option in 0..32u8 {
-        rows[usize::from(option)] = OptionSet::from(u32::MAX).without(option);
+    for (option, row) in (0..32u8).zip(rows.iter_mut()) {
+        *row = row.without(option);
     }
     rows
 }
@@ -208,21 +198,19 @@ fn balances_over_joined_rules(rt: HostRuntime) -> Result<(), Fail> {
     let ends = [Ends { left: 0, right: 1 }];
     let rows = unequal_rows();
     let book = Joined::new(TableBook::new(&ends, &rows), FormulaBook::new(&rules[1..]));
-    let Ok(mut draft) = Draft::open(
+    let mut draft = open(
         rt.alloc(),
         &opening(),
         Remembering::new(book),
         FirstCome::new(),
-    ) else {
-        return Err(Fail::new("no memory"));
-    };
+    )?;
     check_history(&rt, &mut draft, &mut Numbers { state: 77 }, 3000)
 }
 
 fn history(numbers: &mut Numbers) -> [Call; 500] {
     let mut calls = [Call::Settle; 500];
-    for round in 0..500u16 {
-        calls[usize::from(round)] = numbers.call(round);
+    for (round, call) in (0..500u16).zip(calls.iter_mut()) {
+        *call = numbers.call(round);
     }
     calls
 }
@@ -241,20 +229,16 @@ fn replays_a_history(rt: HostRuntime) -> Result<(), Fail> {
     ) else {
         return Err(Fail::new("no memory"));
     };
-    let Ok(mut draft) = Draft::open(
+    let mut draft = open(
         rt.alloc(),
         &opening(),
         FormulaBook::new(&rules),
         FirstCome::new(),
-    ) else {
-        return Err(Fail::new("no memory"));
-    };
+    )?;
     assert_eq!(rt; replayed.answers.len(), calls.len());
-    for i in 0..calls.len() {
-        let answer = draft.perform(calls[i]);
-        assert!(rt; i < replayed.answers.len());
-        assert_eq!(rt; answer, replayed.answers[i]);
+    for (call, told) in calls.iter().zip(&replayed.answers) {
+        assert_eq!(rt; draft.perform(*call), *told);
     }
-    check_sets(&rt, draft.standing(), replayed.draft.standing());
+    assert_eq!(&rt; draft.standing(), replayed.draft.standing());
     Ok(())
 }

@@ -6,6 +6,8 @@ mod calls;
 #[cfg(test)]
 mod histories;
 #[cfg(test)]
+mod opened;
+#[cfg(test)]
 mod openings;
 #[cfg(test)]
 mod plain;

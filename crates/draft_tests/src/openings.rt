@@ -1,5 +1,6 @@
 // Openings that are accepted, and drafts made from refused ones.
 
+use crate::opened::open;
 use agenda::first::FirstCome;
 use books::formula::FormulaBook;
 use draft::draft::Draft;
@@ -9,6 +10,7 @@ use network::rules::{FormulaRule, Kind};
 use std::alloc::Global;
 use std::test::Fail;
 
+// Each crate of tests has its own, beside its rules: a crate for one literal would be no plainer.
 fn rule(left: u8, right: u8) -> FormulaRule {
     FormulaRule {
         left,
@@ -24,10 +26,8 @@ fn first_shown(
     sets: &[OptionSet],
     rules: &[FormulaRule],
 ) -> Option<Result<OptionSet, EngineFault>> {
-    match Draft::open(heap, sets, FormulaBook::new(rules), FirstCome::new()) {
-        Ok(draft) => Some(draft.show(0)),
-        Err(_) => None,
-    }
+    let draft = Draft::open(heap, sets, FormulaBook::new(rules), FirstCome::new()).ok()?;
+    Some(draft.show(0))
 }
 
 #[test]
@@ -51,14 +51,12 @@ fn accepts_16_fields_and_128_rules(rt: HostRuntime) {
 fn refuses_every_call_on_a_refused_opening(rt: HostRuntime) -> Result<(), Fail> {
     let rules = [rule(0, 1)];
     let sets = [OptionSet::from(7)];
-    let Ok(mut draft) = Draft::open(
+    let mut draft = open(
         rt.alloc(),
         &sets,
         FormulaBook::new(&rules),
         FirstCome::new(),
-    ) else {
-        return Err(Fail::new("no memory"));
-    };
+    )?;
     assert_eq!(rt; draft.choose(9, 99), Err(EngineFault::NotOpened));
     assert_eq!(rt; draft.exclude(0, 0), Err(EngineFault::NotOpened));
     assert_eq!(rt; draft.take_back(), Err(EngineFault::NotOpened));

@@ -3,16 +3,14 @@
 
 use draft::types::Taken;
 use network::options::{OPTIONS, OptionSet};
-use network::rules::{FormulaRule, Kind};
+use network::rules::{FormulaRule, Kind, Side};
 use propagation::record::Decision;
 
 // How many options stand in all sets together.
 pub fn total(sets: &[OptionSet]) -> usize {
-    let mut count = 0usize;
-    for set in sets {
-        count = count.saturating_add(usize::from(set.len()));
-    }
-    count
+    sets.iter().fold(0usize, |count, set| {
+        count.saturating_add(usize::from(set.len()))
+    })
 }
 
 // Whether a rule allows a pair.
@@ -29,24 +27,15 @@ fn allows(rule: FormulaRule, left: u8, right: u8) -> bool {
     }
 }
 
-// Whether an option on the left has a partner in the set on the right.
-fn left_has_partner(rule: FormulaRule, left: u8, rights: OptionSet) -> bool {
-    for right in 0..OPTIONS {
-        if rights.contains(right) && allows(rule, left, right) {
-            return true;
-        }
-    }
-    false
-}
-
-// Whether an option on the right has a partner in the set on the left.
-fn right_has_partner(rule: FormulaRule, right: u8, lefts: OptionSet) -> bool {
-    for left in 0..OPTIONS {
-        if lefts.contains(left) && allows(rule, left, right) {
-            return true;
-        }
-    }
-    false
+// Whether an option on one side of a rule has a partner in the set on the other.
+fn has_partner(rule: FormulaRule, side: Side, option: u8, others: OptionSet) -> bool {
+    (0..OPTIONS).any(|other| {
+        others.contains(other)
+            && match side {
+                Side::Left => allows(rule, option, other),
+                Side::Right => allows(rule, other, option),
+            }
+    })
 }
 
 // Takes what has no partner under one rule out of the sets of both its fields.
@@ -57,10 +46,10 @@ fn revise(rule: FormulaRule, sets: &mut [OptionSet]) {
         return;
     }
     for option in 0..OPTIONS {
-        if !left_has_partner(rule, option, sets[right]) {
+        if !has_partner(rule, Side::Left, option, sets[right]) {
             sets[left] = sets[left].without(option);
         }
-        if !right_has_partner(rule, option, sets[left]) {
+        if !has_partner(rule, Side::Right, option, sets[left]) {
             sets[right] = sets[right].without(option);
         }
     }
@@ -87,15 +76,13 @@ pub fn settle(rules: &[FormulaRule], sets: &mut [OptionSet]) {
 fn decide(decision: Decision, sets: &mut [OptionSet]) {
     match decision {
         Decision::Choose { field, option } => {
-            let x = usize::from(field);
-            if x < sets.len() {
-                sets[x] = sets[x].intersection(OptionSet::only(option));
+            if let Some(set) = sets.get_mut(usize::from(field)) {
+                *set = set.intersection(OptionSet::only(option));
             }
         }
         Decision::Exclude { field, option } => {
-            let x = usize::from(field);
-            if x < sets.len() {
-                sets[x] = sets[x].without(option);
+            if let Some(set) = sets.get_mut(usize::from(field)) {
+                *set = set.without(option);
             }
         }
     }

@@ -89,6 +89,7 @@ pub enum ProgramFault {
     Engine(EngineFault),
 }
 
+// Written by hand, here and below, since a clause names the case that `?` makes of a fault.
 impl From<LineFault> for FrameFault {
     ghost from_gives = { λ fault r. r ≡ frame.Line fault };
 
@@ -113,6 +114,7 @@ impl From<EngineFault> for ProgramFault {
     }
 }
 
+// The number is asked for by a method of its name, here and below: `u8::from(fault)` would not say which number it is.
 impl LineFault {
     pub fn number(self) -> u8
         ensures { result ≡ line_number self }

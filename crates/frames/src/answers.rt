@@ -17,7 +17,7 @@ pub enum Answer {
     Shown { field: u8, set: OptionSet },
     // 82: how many options a settle struck, and how many now stand
     Settled { struck: u16, standing: u16 },
-    // FF: a refusal number, and the number of the line
+    // FF: a refusal number, and the number of the line. The number is the byte itself: there are fewer faults than bytes.
     Refused { number: u8, line: u16 },
 }
 

@@ -4,12 +4,12 @@ ghost use Rattle.std.specs.Prelude.{◌≡◌};
 ghost use Rattle.frames.specs.Frames.{decoding};
 ghost use Rattle.frames.specs.Received.{Received};
 
-use crate::lines::{FRAME_BYTES, read_line};
+use crate::lines::frame_of;
 use faults::FrameFault;
 use network::options::OptionSet;
 
 // What a line asks for, by the kind byte that its frame begins with.
-#[derive(Clone, Copy)]
+#[derive(Clone, Copy, PartialEq, Eq, Debug)]
 pub enum Frame {
     // 01: the next field with its set
     EnterField {
@@ -26,7 +26,7 @@ pub enum Frame {
         option: u8,
         set: OptionSet,
     },
-    // 04: a formula rule
+    // 04: a formula rule. The kind is the byte itself: a `Kind` takes fewer values, and would not tell the line.
     EnterFormula {
         left: u8,
         right: u8,
@@ -103,7 +103,6 @@ pub fn decode(bytes: &[u8]) -> Result<Frame, FrameFault>
 pub fn receive(line: &[u8]) -> Result<Frame, FrameFault>
     ensures { Received line.now result }
 {
-    let mut bytes = [0u8; FRAME_BYTES];
-    let size = read_line(line, &mut bytes)?;
-    decode(&bytes[0..size])
+    let bytes = frame_of(line)?;
+    decode(bytes.as_slice())
 }

@@ -1,16 +1,21 @@
 // Lines: hexadecimal digits and a line feed.
 
-ghost use Rattle.std.specs.Prelude.{◌≡◌, ℕ, ◌+◌, ◌*◌, ◌/◌, ◌%◌, ◌<◌, ◌≤◌, true, false, List, ◌++◌, length, take, drop, is_some, IfSome, None, Ok, MatchResult};
+ghost use Rattle.std.specs.Prelude.{◌≡◌, ℕ, ◌+◌, ◌*◌, ◌%◌, ◌<◌, ◌≤◌, List, ◌++◌, length, map, take, drop, is_some, IfSome, None, Some, Ok, Err, MatchResult};
+ghost use Rattle.std.specs.List.{All};
+ghost use Rattle.faults.specs.declared.LineFault.TheVariants.{BadDigit};
 ghost use Rattle.frames.specs.Lines.{digit, digits, line_of, IsFrame, is_digit, before_end, bad_digit, reading, writing, frame_limit};
 
+use arrayvec::ArrayVec;
 use faults::{FrameFault, LineFault};
 
-// The most bytes that a frame has, and that its line has.
+// The most bytes that a frame has, the most digits that stand for it, and the most bytes of its line.
 pub const FRAME_BYTES: usize = 16;
 
-pub const LINE_BYTES: usize = 33;
+const LINE_DIGITS: usize = 2 * FRAME_BYTES;
 
-// The digit of a number below 16.
+pub const LINE_BYTES: usize = LINE_DIGITS + 1;
+
+// The digit of a number below 16: `from_digit` would make lower case letters.
 fn digit_of(n: u8) -> u8
     requires { n < 16 }
     ensures { result ≡ digit n }
@@ -21,7 +26,8 @@ fn digit_of(n: u8) -> u8
     }
 }
 
-// The number that a digit stands for.
+// The number that a digit stands for. A rule of the project: by ranges of bytes, with a guard for what is no digit; and
+// `to_digit` would take lower case letters too.
 fn value_of(byte: u8) -> Option<u8>
     ensures test { is_some result ≡ is_digit byte }
     ensures value { IfSome result (λ n. (n < 16) × (digit n ≡ byte)) }
@@ -34,16 +40,19 @@ fn value_of(byte: u8) -> Option<u8>
     }
 }
 
-// Writes the digits of each byte of a frame, and the line feed.
-fn write_digits(frame: &[u8], line: &mut [u8])
-    requires { 2 * length frame.now + 1 ≤ length line.old }
-    ensures { line.new ≡ line_of frame.now ++ drop (2 * length frame.now + 1) line.old }
+// The line of a frame: the digits of each byte, and the line feed.
+fn line_of(frame: &[u8]) -> ArrayVec<u8, LINE_BYTES>
+    requires { length frame.now ≤ frame_limit }
+    ensures line { result.items ≡ line_of frame.now }
+    ensures size { length result.items ≡ 2 * length frame.now + 1 }
 {
-    for (i, byte) in frame.iter().enumerate() {
-        line[2 * i] = digit_of(*byte / 16);
-        line[2 * i + 1] = digit_of(*byte % 16);
+    let mut line = ArrayVec::new();
+    for byte in frame {
+        line.push(digit_of(*byte / 16));
+        line.push(digit_of(*byte % 16));
     }
-    line[2 * frame.len()] = b'\n';
+    line.push(b'\n');
+    line
 }
 
 // Writes the line of a frame, and tells its length. Bytes behind the line stay; a refusal changes no byte.
@@ -51,85 +60,83 @@ pub fn write_line(frame: &[u8], line: &mut [u8]) -> Result<usize, FrameFault>
     ensures answer { result ≡ writing (length frame.now) (length line.old) }
     ensures after { MatchResult result (λ n. line.new ≡ line_of frame.now ++ drop n line.old) (λ _. line.new ≡ line.old) }
 {
-    let size = frame.len();
-    if size == 0 || size > FRAME_BYTES {
+    if frame.is_empty() || frame.len() > FRAME_BYTES {
         return Err(FrameFault::Size);
     }
-    if line.len() < 2 * size + 1 {
+    let made = line_of(frame);
+    let size = made.len();
+    if line.len() < size {
         return Err(LineFault::ShortBuffer.into());
     }
-    write_digits(frame, line);
-    Ok(2 * size + 1)
+    line[..size].copy_from_slice(made.as_slice());
+    Ok(size)
 }
 
-// How many bytes stand before the end of a line.
-fn size_before_end(line: &[u8]) -> usize
-    ensures { result ≡ length (before_end line.now) }
+// What stands before the end of a line.
+fn before_end(line: &[u8]) -> &[u8]
+    ensures { result.now ≡ before_end line.now }
 {
     match line {
-        [.., b'\n'] => line.len() - 1,
-        _ => line.len(),
+        [body @ .., b'\n'] => body,
+        _ => line,
     }
 }
 
-// The place of the first byte that is no digit.
-fn find_bad_digit(body: &[u8]) -> Option<u8>
-    requires { length body.now ≤ 32 }
-    ensures { result ≡ bad_digit 0 body.now }
+// The number of each digit, or the place of the first byte that is no digit.
+fn read_digits(body: &[u8]) -> Result<ArrayVec<u8, LINE_DIGITS>, LineFault>
+    requires { length body.now ≤ 2 * frame_limit }
+    ensures { MatchResult result
+        (λ v. (bad_digit 0 body.now ≡ None) × (All (λ n. n < 16) v.items) × (map digit v.items ≡ body.now))
+        (λ fault. (place : ℕ) × (bad_digit 0 body.now ≡ Some place) × (fault ≡ BadDigit place)) }
 {
-    for (i, byte) in body.iter().enumerate() {
-        if value_of(*byte).is_none() {
-            return Some(i as u8);
-        }
+    let mut numbers = ArrayVec::new();
+    for byte in body {
+        let Some(number) = value_of(*byte) else {
+            return Err(LineFault::BadDigit {
+                place: numbers.len() as u8,
+            });
+        };
+        numbers.push(number);
     }
-    None
+    Ok(numbers)
 }
 
-// How many bytes the frame of a line has, or the first fault of the line.
-fn frame_size(line: &[u8]) -> Result<usize, LineFault>
-    ensures { result ≡ reading frame_limit line.now }
+// The byte of each two digits.
+fn join_pairs(numbers: &[u8]) -> ArrayVec<u8, FRAME_BYTES>
+    requires even { length numbers.now % 2 ≡ 0 }
+    requires few { length numbers.now ≤ 2 * frame_limit }
+    requires small { All (λ n. n < 16) numbers.now }
+    ensures digits { digits result.items ≡ map digit numbers.now }
+    ensures bytes { All (λ b. b < 256) result.items }
 {
-    let size = size_before_end(line);
-    if size > 2 * FRAME_BYTES {
+    let mut bytes = ArrayVec::new();
+    for [high, low] in numbers.as_chunks::<2>().0 {
+        bytes.push(16 * *high + *low);
+    }
+    bytes
+}
+
+// The frame that a line stands for, or the first fault of the line.
+pub(crate) fn frame_of(line: &[u8]) -> Result<ArrayVec<u8, FRAME_BYTES>, LineFault>
+    ensures { MatchResult result
+        (λ v. IsFrame v.items × (line.now ≡ line_of v.items))
+        (λ fault. reading frame_limit line.now ≡ Err fault) }
+{
+    let body = before_end(line);
+    if body.len() > LINE_DIGITS {
         return Err(LineFault::TooLong);
     }
-    if let Some(place) = find_bad_digit(&line[0..size]) {
-        return Err(LineFault::BadDigit { place });
-    }
-    if size % 2 == 1 {
+    let numbers = read_digits(body)?;
+    if numbers.len() % 2 == 1 {
         return Err(LineFault::Odd);
     }
-    if size == 0 {
+    if numbers.is_empty() {
         return Err(LineFault::Empty);
     }
-    if size == line.len() {
+    if body.len() == line.len() {
         return Err(LineFault::NotEnded);
     }
-    Ok(size / 2)
-}
-
-// The number that a digit stands for, where it is known to be one.
-fn digit_value(byte: u8) -> u8
-    requires { is_digit byte ≡ true }
-    ensures { (result < 16) × (digit result ≡ byte) }
-{
-    match value_of(byte) {
-        Some(n) => n,
-        None => unreachable(),
-    }
-}
-
-// Writes the byte of each two digits.
-fn write_bytes(body: &[u8], frame: &mut [u8])
-    requires even { length body.now % 2 ≡ 0 }
-    requires room { length body.now / 2 ≤ length frame.old }
-    requires good { bad_digit 0 body.now ≡ None }
-    ensures bytes { digits (take (length body.now / 2) frame.new) ≡ body.now }
-    ensures behind { drop (length body.now / 2) frame.new ≡ drop (length body.now / 2) frame.old }
-{
-    for i in 0..body.len() / 2 {
-        frame[i] = 16 * digit_value(body[2 * i]) + digit_value(body[2 * i + 1]);
-    }
+    Ok(join_pairs(numbers.as_slice()))
 }
 
 // Reads the frame that a line stands for, and tells its length. Bytes behind the frame stay; a refusal changes no
@@ -143,7 +150,8 @@ pub fn read_line(line: &[u8], frame: &mut [u8]) -> Result<usize, LineFault>
     if frame.len() < FRAME_BYTES {
         return Err(LineFault::ShortBuffer);
     }
-    let size = frame_size(line)?;
-    write_bytes(&line[0..2 * size], frame);
+    let bytes = frame_of(line)?;
+    let size = bytes.len();
+    frame[..size].copy_from_slice(bytes.as_slice());
     Ok(size)
 }

@@ -1,5 +1,5 @@
 -- Tests as facts: from a test to what it says, and back.
-use Rattle.std.proofs.Common.{◌≡◌, Bool, true, false, ◌&&◌, ◌||◌, T, sym, refl, subst}
+use Rattle.std.proofs.Common.{◌≡◌, Bool, true, false, ◌&&◌, T, sym, refl, subst}
 
 pub yes_T : (b : Bool) → T b → b ≡ true
 yes_T true h = refl
@@ -34,10 +34,6 @@ and_true false = refl
 pub and_false : (a : Bool) → (a && false) ≡ false
 and_false true = refl
 and_false false = refl
-
-pub or_false : (a : Bool) → (a || false) ≡ a
-or_false true = refl
-or_false false = refl
 
 -- two tests that follow from each other
 pub same_test : (a b : Bool) → (T a → T b) → (T b → T a) → a ≡ b

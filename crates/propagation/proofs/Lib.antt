@@ -1,6 +1,5 @@
 mod Searches
 mod Asking
-mod Listing
 pub mod Openings
 pub mod Strikes
 pub mod Undoing

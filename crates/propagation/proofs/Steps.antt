@@ -1,18 +1,19 @@
 -- Progress from sets to sets, by strikes for want of a partner.
-use Rattle.std.proofs.Common.{◌≡◌, ℕ, ◌+◌, ◌-◌, ◌^◌, ◌<◌, not, ◌&&◌, T, eqb, ◌⊎◌, List, [], ◌∷◌, ◌++◌, length, get_or, Some, None, vec_items, vec_len, vec_capacity, Vec, sym, refl, ap, ◌∙◌, subst, inl, inr, arith, length-append}
-use Rattle.std.proofs.lemmas.Bool.{cases_eq, eq-eqb, ne_eqb}
+use Rattle.std.proofs.Common.{◌≡◌, ℕ, ◌+◌, ◌-◌, ◌^◌, ◌<◌, true, false, not, ◌&&◌, T, eqb, ◌⊎◌, List, [], ◌∷◌, ◌++◌, length, get_or, Some, None, Option, is_some, vec_items, vec_len, vec_capacity, Vec, sym, refl, ap, ◌∙◌, subst, inl, inr, arith, length-append}
+use Rattle.std.proofs.lemmas.Bool.{cases_eq, eq-eqb, ne_eqb, true≢false}
 use Rattle.std.proofs.lemmas.List.{append-nil, append_assoc, nil_from_length}
-use Rattle.network.specs.Network.{has, Rule, Part, part, Within, rule_limit, option_limit}
+use Rattle.network.specs.Network.{has, Rule, Part, part, words, Within, rule_limit, option_limit}
 use Rattle.network.specs.declared.rules.Side.{Side}
 use Rattle.network.specs.declared.rules.Side.TheVariants.{Left, Right}
 use Rattle.network.proofs.Truth.{and_T, T_left, T_right}
 use Rattle.network.proofs.Bits.{has_below, has_less}
-use Rattle.network.specs.declared.rules.Arc.{Arc}
 use Rattle.books.specs.Reads.{Partner}
 use Rattle.propagation.specs.Strikes.{without, options, UnsupportedAt, Struck}
-use Rattle.propagation.specs.Arcs.{own, across, Supported, Sound, ArcAt}
+use Rattle.propagation.specs.Arcs.{own, across, Supported, Sound, ArcAt, strike_of}
+use Rattle.propagation.specs.declared.arcs.PlacedArc.{PlacedArc}
 use Rattle.propagation.specs.Progress.{Progress}
-use Rattle.propagation.specs.declared.record.Cause.TheVariants.{Unsupported}
+use Rattle.propagation.specs.Standing.{Led}
+use Rattle.propagation.specs.declared.standing.Standing.{Standing}
 use Rattle.propagation.specs.declared.record.Strike.{Strike}
 use Rattle.propagation.proofs.Asking.{allowed_pairs, pairs_allowed}
 use Rattle.propagation.proofs.Strikes.{counted, same_length, no_larger, joined, shrinks}
@@ -65,46 +66,56 @@ module _ {Z : Type 0} (rules : List Rule) where
           | inr some ↦ omega (arith, counted rules [] p.found s s' (p.struck []))
         ]
 
+-- the same of what stands
+module _ (rules : List Rule) where
+  pub led_then : (s₀ s₁ s₂ : Standing) → Led rules s₀ s₁ → Led rules s₁ s₂ → Led rules s₀ s₂
+  led_then s₀ s₁ s₂ p q = record {
+    same_sets = q.same_sets ∙ p.same_sets;
+    same_list = q.same_list ∙ p.same_list;
+    progress = progress_then rules (words s₀.sets.now) (words s₁.sets.now) (words s₂.sets.now) s₀.strikes.now s₁.strikes.now s₂.strikes.now p.progress q.progress;
+  }
+
 pub unsupported_by : (rules : List Rule) (p : Part) (side : Side) (r a : ℕ) → (Supported rules p side r a → ⊥) → UnsupportedAt rules p side r (own rules side r) a
 unsupported_by rules p Left r a none = (refl, λ b t k. none (b, (t, k)))
 unsupported_by rules p Right r a none = (refl, λ b t k. none (b, (t, k)))
 
 -- one option of an arc
-module _ (rules : List Rule) (sets : List ℕ) (arc : Arc) (x y a : ℕ) (at : ArcAt rules sets arc x y) (stands : T (part sets x a)) where
-  rule_small : arc.rule < rule_limit
+module _ (rules : List Rule) (sets : List ℕ) (arc : PlacedArc) (a : ℕ) (at : ArcAt rules sets arc) (stands : T (part sets arc.own a)) where
+  rule_small : arc.arc.rule < rule_limit
   rule_small = omega (arith, at.sound.rules_few, at.rule)
 
-  pub partner_found : (b : ℕ) → Partner rules arc.side arc.rule a (get_or sets y 0) (Some b) → Supported rules (part sets) arc.side arc.rule a
-  partner_found b h =
-      (b, (allowed_pairs rules arc.rule rule_small arc.side a b h.1, subst (λ z. T (part sets z b)) at.other h.0))
+  module _ (w : ℕ) (across_is : get_or sets arc.across 0 ≡ w) where
+    pub partner_found : (told : Option ℕ) → is_some told ≡ true → Partner rules arc.arc.side arc.arc.rule a w told → Supported rules (part sets) arc.arc.side arc.arc.rule a
+    partner_found None e h = absurd (true≢false (sym e))
+    partner_found (Some b) e h =
+        (b, (allowed_pairs rules arc.arc.rule rule_small arc.arc.side a b h.1, subst (λ z. T (part sets z b)) at.other (subst (λ v. T (has v b)) (sym across_is) h.0)))
 
-  pub partner_none : Partner rules arc.side arc.rule a (get_or sets y 0) None → Supported rules (part sets) arc.side arc.rule a → ⊥
-  partner_none h (b, (t, k)) =
-      let l = at.sound.own_field arc.rule Left at.rule in
-      let m = at.sound.own_field arc.rule Right at.rule in
-      let k' : T (part sets y b) = subst (λ z. T (part sets z b)) (sym at.other) k in
-      h b k' (pairs_allowed rules arc.rule rule_small arc.side a b (omega (arith, l, at.sound.few)) (omega (arith, m, at.sound.few))
-      (has_below option_limit (get_or sets x 0) a (at.sound.fit x) stands) (has_below option_limit (get_or sets y 0) b (at.sound.fit y) k') t)
+    pub partner_none : (told : Option ℕ) → is_some told ≡ false → Partner rules arc.arc.side arc.arc.rule a w told → Supported rules (part sets) arc.arc.side arc.arc.rule a → ⊥
+    partner_none (Some b) e h k = absurd (true≢false e)
+    partner_none None e h (b, (t, k)) =
+        let l = at.sound.own_field arc.arc.rule Left at.rule in
+        let m = at.sound.own_field arc.arc.rule Right at.rule in
+        let there : T (part sets arc.across b) = subst (λ z. T (part sets z b)) (sym at.other) k in
+        h b (subst (λ v. T (has v b)) across_is there) (pairs_allowed rules arc.arc.rule rule_small arc.arc.side a b (omega (arith, l, at.sound.few)) (omega (arith, m, at.sound.few))
+        (has_below option_limit (get_or sets arc.own 0) a (at.sound.fit arc.own) stands) (has_below option_limit (get_or sets arc.across 0) b (at.sound.fit arc.across) there) t)
 
-  module _ {Z : Type 0} (v v' : Vec Strike Z) (sets' : List ℕ) (none : Supported rules (part sets) arc.side arc.rule a → ⊥)
-      (after : sets' ≡ without sets x a)
-      (items : vec_items v' ≡ vec_items v ++ (record { field = x; option = a; cause = Unsupported arc.rule arc.side } ∷ []))
-      (len : vec_len v' ≡ vec_len v + 1) (cap : vec_capacity v' ≡ vec_capacity v) where
-    pub progress_strike : Progress rules sets v sets' v'
-    progress_strike =
-        let u : UnsupportedAt rules (part sets) arc.side arc.rule x a =
-        subst (λ z. UnsupportedAt rules (part sets) arc.side arc.rule z a) (sym at.field) (unsupported_by rules (part sets) arc.side arc.rule a none) in
-        record {
-          found = record { field = x; option = a; cause = Unsupported arc.rule arc.side } ∷ [];
-          items = items;
-          len = omega (arith, len);
-          cap = cap;
-          struck = λ decisions. (stands, ((at.rule, u), after));
-        }
+  pub progress_strike : {Z : Type 0} (v v' : Vec Strike Z) (sets' : List ℕ) → (Supported rules (part sets) arc.arc.side arc.arc.rule a → ⊥) → sets' ≡ without sets arc.own a →
+      vec_items v' ≡ vec_items v ++ (strike_of arc a ∷ []) → vec_len v' ≡ vec_len v + 1 → vec_capacity v' ≡ vec_capacity v →
+      Progress rules sets v sets' v'
+  progress_strike v v' sets' none after items len cap =
+      let u : UnsupportedAt rules (part sets) arc.arc.side arc.arc.rule arc.own a =
+      subst (λ z. UnsupportedAt rules (part sets) arc.arc.side arc.arc.rule z a) (sym at.field) (unsupported_by rules (part sets) arc.arc.side arc.arc.rule a none) in
+      record {
+        found = strike_of arc a ∷ [];
+        items = items;
+        len = omega (arith, len);
+        cap = cap;
+        struck = λ decisions. (stands, ((at.rule, u), after));
+      }
 
 -- the arc after some options were struck
-pub at_after : {Z : Type 0} (rules : List Rule) (s s' : List ℕ) (v v' : Vec Strike Z) (arc : Arc) (x y : ℕ) → Progress rules s v s' v' → ArcAt rules s arc x y → ArcAt rules s' arc x y
-at_after rules s s' v v' arc x y p at = record { sound = progress_sound rules s s' v v' p at.sound; rule = at.rule; field = at.field; other = at.other }
+pub at_after : {Z : Type 0} (rules : List Rule) (s s' : List ℕ) (v v' : Vec Strike Z) (arc : PlacedArc) → Progress rules s v s' v' → ArcAt rules s arc → ArcAt rules s' arc
+at_after rules s s' v v' arc p at = record { sound = progress_sound rules s s' v v' p at.sound; rule = at.rule; field = at.field; other = at.other }
 
 -- an option keeps its partner where the field across is as it was
 pub support_stays : (rules : List Rule) (s s' : List ℕ) (side : Side) (r a : ℕ) → get_or s' (across rules side r) 0 ≡ get_or s (across rules side r) 0 → Supported rules (part s) side r a → Supported rules (part s') side r a
@@ -114,9 +125,6 @@ support_stays rules s s' side r a e (b, (t, h)) = (b, (t, subst (λ w. T (has w 
 pub record Walk (rules : List Rule) (sets : List ℕ) (side : Side) (r x waiting : ℕ) : Type 0 where
   pub stand : (b : ℕ) → T (has waiting b) → T (part sets x b)
   pub seen : (b : ℕ) → T (part sets x b) → T (has waiting b) ⊎ Supported rules (part sets) side r b
-
-pub walk_start : (rules : List Rule) (sets : List ℕ) (side : Side) (r x : ℕ) → Walk rules sets side r x (get_or sets x 0)
-walk_start rules sets side r x = record { stand = λ b t. t; seen = λ b t. inl t }
 
 module _ (rules : List Rule) (s s' : List ℕ) (side : Side) (r x waiting a : ℕ) (walk : Walk rules s side r x waiting) (first : T (has waiting a)) where
   left : (b : ℕ) → has (waiting - 2 ^ a) b ≡ (has waiting b && not (eqb b a))

@@ -1,12 +1,15 @@
 -- Arcs: a rule and the side of it whose field is to be revised.
 use Rattle.std.specs.Prelude.{◌≡◌, ℕ, ◌*◌, ◌^◌, ◌<◌, ◌≤◌, Bool, true, false, T, List, length, ◌≢◌, slice_index, slice_index_or}
-use Rattle.network.specs.Network.{Rule, Part, rule_at, option_limit, field_limit, rule_limit}
+use Rattle.network.specs.Network.{Rule, Part, part, rule_at, option_limit, field_limit, rule_limit}
 use Rattle.network.specs.declared.rules.Ends.{Ends}
 use Rattle.network.specs.declared.rules.Side.{Side}
 use Rattle.network.specs.declared.rules.Side.TheVariants.{Left, Right}
 use Rattle.agenda.specs.Waiting.{Waiting}
 use Rattle.agenda.specs.Jobs.{arc_number}
 use Rattle.network.specs.declared.rules.Arc.{Arc}
+use Rattle.propagation.specs.declared.arcs.PlacedArc.{PlacedArc}
+use Rattle.propagation.specs.declared.record.Cause.TheVariants.{Unsupported}
+use Rattle.propagation.specs.declared.record.Strike.{Strike}
 
 -- the field on that side of a rule, and the field across
 abbrev pub own : List Rule → Side → ℕ → ℕ
@@ -47,14 +50,25 @@ OthersBut rules p w arc =
 abbrev pub no_ends : Ends
 no_ends = record { left = 0; right = 0 }
 
+-- the end on that side, and the end across
+abbrev pub end_on : Ends → Side → ℕ
+end_on ends Left = ends.left
+end_on ends Right = ends.right
+
+abbrev pub end_across : Ends → Side → ℕ
+end_across ends Left = ends.right
+end_across ends Right = ends.left
+
+-- an arc of a rule with these ends
+abbrev pub placed : Arc → Ends → PlacedArc
+placed arc ends = record { arc = arc; own = end_on ends arc.side; across = end_across ends arc.side }
+
 -- the ends of rule r in a list of ends, by side: its own and the one across
 abbrev pub listed_own : List Ends → Side → ℕ → ℕ
-listed_own ends Left r = (slice_index_or ends r no_ends).left
-listed_own ends Right r = (slice_index_or ends r no_ends).right
+listed_own ends side r = end_on (slice_index_or ends r no_ends) side
 
 abbrev pub listed_across : List Ends → Side → ℕ → ℕ
-listed_across ends Left r = (slice_index_or ends r no_ends).right
-listed_across ends Right r = (slice_index_or ends r no_ends).left
+listed_across ends side r = end_across (slice_index_or ends r no_ends) side
 
 -- a list of ends is that of the rules
 pub record Listed (rules : List Rule) (ends : List Ends) : Type 0 where
@@ -97,12 +111,22 @@ pub record Sound (rules : List Rule) (sets : List ℕ) : Type 0 where
   pub apart : (r : ℕ) (side : Side) → r < length rules → across rules side r ≢ own rules side r
 
 -- an arc of the rules, with its field and the field across
-pub record ArcAt (rules : List Rule) (sets : List ℕ) (arc : Arc) (x y : ℕ) : Type 0 where
+pub record ArcAt (rules : List Rule) (sets : List ℕ) (place : PlacedArc) : Type 0 where
   pub sound : Sound rules sets
-  pub rule : arc.rule < length rules
-  pub field : x ≡ own rules arc.side arc.rule
-  pub other : y ≡ across rules arc.side arc.rule
+  pub rule : place.arc.rule < length rules
+  pub field : place.own ≡ own rules place.arc.side place.arc.rule
+  pub other : place.across ≡ across rules place.arc.side place.arc.rule
+
+-- the strike of option a for want of a partner along the arc
+abbrev pub strike_of : PlacedArc → ℕ → Strike
+strike_of place a = record { field = place.own; option = a; cause = Unsupported place.arc.rule place.arc.side }
 
 -- sets that differ in field x only
 abbrev pub Elsewhere : List ℕ → List ℕ → ℕ → Type 0
 Elsewhere sets sets' x = (z : ℕ) → (z ≢ x) → slice_index sets' z ≡ slice_index sets z
+
+-- an arc was revised: nothing changed but its field, which kept every option with a partner across, and no other
+pub record Revised (rules : List Rule) (sets sets' : List ℕ) (place : PlacedArc) : Type 0 where
+  pub elsewhere : Elsewhere sets sets' place.own
+  pub stays : (a : ℕ) → Supported rules (part sets) place.arc.side place.arc.rule a → T (part sets place.own a) → T (part sets' place.own a)
+  pub consistent : ArcOk rules (part sets') place.arc.side place.arc.rule

@@ -6,3 +6,4 @@ pub mod Arcs
 pub mod Progress
 pub mod Turns
 pub mod Examples
+pub mod Standing

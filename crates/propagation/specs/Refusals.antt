@@ -1,20 +1,16 @@
 -- Why sets cannot be opened over rules.
-use Rattle.std.specs.Prelude.{ℕ, Bool, false, cond, ◌||◌, List, [], ◌∷◌, length, Some, None, Ok, Err, Option, Result, ◌==◌, nat_le, nat_lt}
+use Rattle.std.specs.Prelude.{ℕ, Bool, cond, ◌||◌, List, length, Some, None, Ok, Err, Option, Result, ◌==◌, nat_lt}
+use Rattle.std.specs.List.{list_any}
 use Rattle.faults.specs.declared.EngineFault.{EngineFault}
 use Rattle.faults.specs.declared.EngineFault.TheVariants.{FieldCount, EmptySet, RuleCount, UnfitEnds}
-use Rattle.network.specs.Network.{Rule, field_limit, rule_limit}
+use Rattle.network.specs.Network.{Rule, field_limit, rule_limit, no_fields}
 
 -- whether some element passes a test
 abbrev pub any : {X : Type 0} → (X → Bool) → List X → Bool
-any test [] = false
-any test (x ∷ xs) = test x || any test xs
+any = list_any
 
 abbrev pub empty : ℕ → Bool
 empty w = w == 0
-
--- one of two ends is not among n fields, or they are one
-abbrev pub no_fields : ℕ → ℕ → ℕ → Bool
-no_fields n left right = nat_le n left || (nat_le n right || left == right)
 
 abbrev pub unfit : ℕ → Rule → Bool
 unfit n rule = no_fields n rule.left rule.right

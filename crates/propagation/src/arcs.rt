@@ -1,61 +1,79 @@
 // Arcs on an agenda: which wait, and how urgent they are.
 
-ghost use Rattle.std.specs.Prelude.{◌≡◌, ◌<◌, ◌≤◌, length, take};
+ghost use Rattle.std.specs.Prelude.{◌≡◌, ◌<◌, ◌≤◌, ◌==◌, ◌&&◌, not, length};
 ghost use Rattle.network.specs.Network.{rule_limit};
 ghost use Rattle.agenda.specs.Waiting.{Nothing, Same, with_one};
-ghost use Rattle.agenda.specs.Jobs.{arc_number, put_job};
-ghost use Rattle.propagation.specs.Arcs.{listed_own, listed_across, Listed, BetweenFields, OnlyBelow, AllBelow, Neighbours, Still};
+ghost use Rattle.agenda.specs.Jobs.{put_job};
+ghost use Rattle.propagation.specs.Arcs.{number_of, end_on, end_across, placed, Listed, BetweenFields, OnlyBelow, AllBelow, Neighbours, Still};
 
 use agenda::agenda::Agenda;
 use agenda::job::put_job;
 use books::book::Book;
 use network::options::OptionSet;
-use network::rules::{Arc, Ends, Side};
+use network::rules::{Arc, Ends, RULES, Side};
 
-// Lists the ends of the book's rules, so that no rule is asked for them twice, and tells how many rules there are.
-pub fn list_ends<B: Book>(book: &B, ends: &mut [Ends]) -> usize
-    requires few { length (B.Book.meaning book.now) ≤ rule_limit }
-    requires room { length (B.Book.meaning book.now) ≤ length ends.old }
-    ensures count { result ≡ length (B.Book.meaning book.now) }
-    ensures listed { Listed (B.Book.meaning book.now) (take result ends.new) }
-{
-    let count = book.count();
-    for rule in 0..count {
-        ends[rule as usize] = book.ends(rule);
-    }
-    count as usize
+// An arc with its own field, which is to be revised, and the field across.
+#[derive(Clone, Copy)]
+pub struct PlacedArc {
+    pub arc: Arc,
+    pub own: u8,
+    pub across: u8,
 }
 
-// The field of an arc, and the field across.
-pub fn arc_ends(ends: &[Ends], arc: Arc) -> (u8, u8)
-    requires { arc.rule < length ends.now }
-    ensures field { result.0 ≡ listed_own ends.now arc.side arc.rule }
-    ensures other { result.1 ≡ listed_across ends.now arc.side arc.rule }
-{
-    let Ends { left, right } = ends[arc.rule as usize];
-    match arc.side {
-        Side::Left => (left, right),
-        Side::Right => (right, left),
+impl PlacedArc {
+    // An arc of a rule with these ends.
+    pub fn new(arc: Arc, ends: Ends) -> PlacedArc
+        ensures { result ≡ placed arc ends }
+    {
+        let (own, across) = match arc.side {
+            Side::Left => (ends.left, ends.right),
+            Side::Right => (ends.right, ends.left),
+        };
+        PlacedArc { arc, own, across }
     }
 }
 
-// Lets an arc of the field wait: the fewer options stand in it, the more urgent.
-fn put_arc<W: Agenda>(sets: &[OptionSet], agenda: &mut W, arc: Arc, field: u8)
-    requires rule { arc.rule < rule_limit }
-    requires field { field < length sets.now }
-    ensures { Same (with_one (W.Agenda.waiting agenda.old) (arc_number arc)) (W.Agenda.waiting agenda.new) }
+// Lists the ends of the book's rules in a table, so that no rule is asked for them twice.
+pub fn list_ends<'a, B: Book>(book: &B, table: &'a mut [Ends; RULES as usize]) -> &'a [Ends]
+    requires { length (B.Book.meaning book.now) ≤ rule_limit }
+    ensures { Listed (B.Book.meaning book.now) result.now }
 {
-    let _ = put_job(agenda, arc, sets[field as usize].len());
+    let listed = &mut table[..book.count() as usize];
+    // A rule is asked for by its number, here and below: so the entries are counted.
+    for (rule, ends) in listed.iter_mut().enumerate() {
+        *ends = book.ends(rule as u8);
+    }
+    listed
 }
 
-// Lets the arc wait if it is wanted.
-fn put_if<W: Agenda>(sets: &[OptionSet], agenda: &mut W, arc: Arc, field: u8, wanted: bool)
-    requires rule { arc.rule < rule_limit }
-    requires field { field < length sets.now }
-    ensures { Same (put_job (W.Agenda.waiting agenda.old) wanted (arc_number arc)) (W.Agenda.waiting agenda.new) }
+// Rule, side and ends come one by one, here and below: the loops have them so, and an arc is made only to be put.
+// Lets the arc on that side of a rule with these ends wait: the fewer options stand in its field, the more urgent.
+fn put_arc<W: Agenda>(sets: &[OptionSet], agenda: &mut W, rule: u8, side: Side, ends: Ends)
+    requires rule { rule < rule_limit }
+    requires field { end_on ends side < length sets.now }
+    ensures { Same (with_one (W.Agenda.waiting agenda.old) (number_of rule side)) (W.Agenda.waiting agenda.new) }
 {
-    if wanted {
-        put_arc(sets, agenda, arc, field);
+    let arc = Arc { rule, side };
+    let place = PlacedArc::new(arc, ends);
+    let _ = put_job(agenda, arc, sets[place.own as usize].len());
+}
+
+// Lets such an arc wait if the field that was just revised lies across from it, but not along the same rule.
+fn put_neighbour<W: Agenda>(
+    sets: &[OptionSet],
+    agenda: &mut W,
+    rule: u8,
+    side: Side,
+    ends: Ends,
+    revised: PlacedArc,
+)
+    requires rule { rule < rule_limit }
+    requires field { end_on ends side < length sets.now }
+    ensures { Same (put_job (W.Agenda.waiting agenda.old) (not (rule == revised.arc.rule) && end_across ends side == revised.own) (number_of rule side)) (W.Agenda.waiting agenda.new) }
+{
+    let place = PlacedArc::new(Arc { rule, side }, ends);
+    if rule != revised.arc.rule && place.across == revised.own {
+        put_arc(sets, agenda, rule, side, ends);
     }
 }
 
@@ -66,59 +84,28 @@ pub fn put_all<W: Agenda>(sets: &[OptionSet], ends: &[Ends], agenda: &mut W)
     ensures only { OnlyBelow (length ends.now) (W.Agenda.waiting agenda.new) }
     ensures every { AllBelow (length ends.now) (W.Agenda.waiting agenda.new) }
 {
-    for rule in 0..ends.len() as u8 {
-        let Ends { left, right } = ends[rule as usize];
-        let on_left = Arc {
-            rule,
-            side: Side::Left,
-        };
-        put_arc(sets, agenda, on_left, left);
-        let on_right = Arc {
-            rule,
-            side: Side::Right,
-        };
-        put_arc(sets, agenda, on_right, right);
+    for (rule, pair) in ends.iter().enumerate() {
+        put_arc(sets, agenda, rule as u8, Side::Left, *pair);
+        put_arc(sets, agenda, rule as u8, Side::Right, *pair);
     }
 }
 
-// Puts every arc across from which the field lies, but for those of the rule that was just revised: what it struck from
-// the field was nobody's partner there.
+// Puts every arc across from which the field lies that was just revised, but for those of the same rule: what was struck
+// from the field was nobody's partner there.
 pub fn put_neighbours<W: Agenda>(
     sets: &[OptionSet],
     ends: &[Ends],
     agenda: &mut W,
-    field: u8,
-    revised: u8,
+    revised: PlacedArc,
 )
     requires fields { BetweenFields ends.now (length sets.now) }
     requires only { OnlyBelow (length ends.now) (W.Agenda.waiting agenda.old) }
     ensures only { OnlyBelow (length ends.now) (W.Agenda.waiting agenda.new) }
     ensures more { Still (W.Agenda.waiting agenda.old) (W.Agenda.waiting agenda.new) }
-    ensures every { Neighbours ends.now (length ends.now) field revised (W.Agenda.waiting agenda.new) }
+    ensures every { Neighbours ends.now (length ends.now) revised.own revised.arc.rule (W.Agenda.waiting agenda.new) }
 {
-    for rule in 0..ends.len() as u8 {
-        let Ends { left, right } = ends[rule as usize];
-        let on_left = Arc {
-            rule,
-            side: Side::Left,
-        };
-        put_if(
-            sets,
-            agenda,
-            on_left,
-            left,
-            (rule != revised) & (right == field),
-        );
-        let on_right = Arc {
-            rule,
-            side: Side::Right,
-        };
-        put_if(
-            sets,
-            agenda,
-            on_right,
-            right,
-            (rule != revised) & (left == field),
-        );
+    for (rule, pair) in ends.iter().enumerate() {
+        put_neighbour(sets, agenda, rule as u8, Side::Left, *pair, revised);
+        put_neighbour(sets, agenda, rule as u8, Side::Right, *pair, revised);
     }
 }

@@ -13,4 +13,5 @@ pub mod opening;
 pub mod propagate;
 pub mod record;
 mod revise;
+mod standing;
 pub mod undo;

@@ -2,33 +2,29 @@
 
 ghost use Rattle.std.specs.Prelude.{◌≡◌, ◌≤◌, false, length, MatchResult};
 ghost use Rattle.network.specs.Network.{words, rule_limit};
+ghost use Rattle.books.specs.Reads.{asked};
 ghost use Rattle.propagation.specs.Opening.{Accepted};
-ghost use Rattle.propagation.specs.Refusals.{any, empty, no_fields, unfit, opening_refusal, answer};
+ghost use Rattle.propagation.specs.Refusals.{any, empty, unfit, opening_refusal, answer};
 ghost use Rattle.propagation.specs.Undo.{Fit};
 
 use books::book::Book;
 use faults::EngineFault;
 use network::options::OptionSet;
-use network::rules::{Ends, FIELDS, RULES};
+use network::rules::{FIELDS, RULES};
 
 // Whether some set has no option. Sets that were all looked at are known to fit.
 pub fn any_empty(sets: &[OptionSet]) -> bool
     ensures answer { result ≡ any empty (words sets.now) }
     ensures fit { result ≡ false → Fit (words sets.now) }
 {
-    for set in sets {
-        if u32::from(*set) == 0 {
-            return true;
-        }
-    }
-    false
+    sets.iter().any(|set| u32::from(*set) == 0)
 }
 
-// Whether one of two ends is not among the fields, or they are one.
-fn are_unfit(ends: Ends, fields: u8) -> bool
-    ensures { result ≡ no_fields fields ends.left ends.right }
+// Whether a rule does not lie between two of the fields.
+fn is_unfit<B: Book>(book: &B, fields: u8, rule: u8) -> bool
+    ensures { result ≡ unfit fields (asked (B.Book.meaning book.now) rule) }
 {
-    ends.left >= fields || ends.right >= fields || ends.left == ends.right
+    book.ends(rule).are_unfit(fields)
 }
 
 // Whether some rule does not lie between two of the fields.
@@ -36,12 +32,7 @@ fn any_unfit<B: Book>(book: &B, fields: u8) -> bool
     requires { length (B.Book.meaning book.now) ≤ rule_limit }
     ensures { result ≡ any (unfit fields) (B.Book.meaning book.now) }
 {
-    for rule in 0..book.count() {
-        if are_unfit(book.ends(rule), fields) {
-            return true;
-        }
-    }
-    false
+    (0..book.count()).any(|rule| is_unfit(book, fields, rule))
 }
 
 // Checks whether the sets can be opened over the book, and tells the first reason why not.

@@ -7,45 +7,46 @@ ghost use Rattle.propagation.specs.Strikes.{options};
 ghost use Rattle.propagation.specs.Opening.{Accepted};
 ghost use Rattle.propagation.specs.Arcs.{Listed};
 ghost use Rattle.propagation.specs.Progress.{Progress, SettledOn, WipedFrom};
+ghost use Rattle.propagation.specs.Standing.{Led};
 ghost use Rattle.propagation.specs.Turns.{Ready, Turned, Wiped};
 
-use crate::arcs::{arc_ends, list_ends, put_all, put_neighbours};
+use crate::arcs::{PlacedArc, list_ends, put_all, put_neighbours};
 use crate::record::{Strike, WipedOut};
-use crate::revise::revise;
+use crate::standing::Standing;
 use agenda::agenda::Agenda;
 use agenda::job::take_job;
 use books::book::Book;
 use network::options::OptionSet;
 use network::rules::{Arc, Ends, RULES};
 
-// Revises an arc that was taken from the agenda, and puts the arcs that this may have upset.
-fn turn<B: Book, W: Agenda>(
-    sets: &mut [OptionSet],
-    book: &mut B,
-    agenda: &mut W,
-    strikes: &mut Vec<Strike>,
-    ends: &[Ends],
-    arc: Arc,
-) -> Result<(), WipedOut>
-    requires ready { Ready (B.Book.meaning book.old) (words sets.old) (W.Agenda.waiting agenda.old) arc }
-    requires room { vec_len strikes.old + options (words sets.old) ≤ vec_capacity strikes.old }
-    requires listed { Listed (B.Book.meaning book.old) ends.now }
-    ensures same { B.Book.meaning book.new ≡ B.Book.meaning book.old }
-    ensures progress { Progress (B.Book.meaning book.old) (words sets.old) strikes.old (words sets.new) strikes.new }
-    ensures cases { MatchResult result (λ _. Turned (B.Book.meaning book.old) (words sets.old) (W.Agenda.waiting agenda.old) (words sets.new) (W.Agenda.waiting agenda.new)) (λ w. Wiped (B.Book.meaning book.old) (words sets.new) w) }
-{
-    let (field, other) = arc_ends(ends, arc);
-    if !revise(sets, book, strikes, arc, field, other) {
-        return Ok(());
+impl Standing<'_> {
+    // Revises an arc that was taken from the agenda, and puts the arcs that this may have upset.
+    fn turn<B: Book, W: Agenda>(
+        &mut self,
+        book: &mut B,
+        agenda: &mut W,
+        ends: &[Ends],
+        arc: Arc,
+    ) -> Result<(), WipedOut>
+        requires ready { Ready (B.Book.meaning book.old) (words self.old.sets.now) (W.Agenda.waiting agenda.old) arc }
+        requires listed { Listed (B.Book.meaning book.old) ends.now }
+        ensures same { B.Book.meaning book.new ≡ B.Book.meaning book.old }
+        ensures led { Led (B.Book.meaning book.old) self.old self.new }
+        ensures cases { MatchResult result (λ _. Turned (B.Book.meaning book.old) (words self.old.sets.now) (W.Agenda.waiting agenda.old) (words self.new.sets.now) (W.Agenda.waiting agenda.new)) (λ w. Wiped (B.Book.meaning book.old) (words self.new.sets.now) w) }
+    {
+        let place = PlacedArc::new(arc, ends[arc.rule as usize]);
+        if !self.revise(book, place) {
+            return Ok(());
+        }
+        if self.sets[place.own as usize].is_empty() {
+            return Err(WipedOut {
+                field: place.own,
+                rule: arc.rule,
+            });
+        }
+        put_neighbours(self.sets(), ends, agenda, place);
+        Ok(())
     }
-    if sets[field as usize].is_empty() {
-        return Err(WipedOut {
-            field,
-            rule: arc.rule,
-        });
-    }
-    put_neighbours(sets, ends, agenda, field, arc.rule);
-    Ok(())
 }
 
 // Strikes every option that has no place in the largest arc-consistent part of the sets, and stops where a field
@@ -72,13 +73,14 @@ pub fn propagate<B: Book, W: Agenda>(
     ensures progress { Progress (B.Book.meaning book.old) (words sets.old) strikes.old (words sets.new) strikes.new }
     ensures answer { MatchResult result (λ _. SettledOn (B.Book.meaning book.old) (words sets.old) (words sets.new)) (λ w. WipedFrom (B.Book.meaning book.old) (words sets.old) w) }
 {
+    // Fixed memory: propagation never wants for memory, so the ends stand in a table for the most rules.
     let mut table = [Ends::nowhere(); RULES as usize];
-    let count = list_ends(book, &mut table);
-    let ends = &table[..count];
+    let ends = list_ends(book, &mut table);
     agenda.clear();
     put_all(sets, ends, agenda);
+    let mut standing = Standing { sets, strikes };
     while let Some(arc) = take_job(agenda) {
-        if let Err(wiped) = turn(sets, book, agenda, strikes, ends, arc) {
+        if let Err(wiped) = standing.turn(book, agenda, ends, arc) {
             agenda.clear();
             return Err(wiped);
         }

@@ -1,6 +1,13 @@
 // What is written down when an option is struck.
 
+ghost use Rattle.std.specs.Prelude.{◌≡◌};
+ghost use Rattle.faults.specs.declared.EngineFault.TheVariants as engine;
+
+use faults::EngineFault;
 use network::rules::Side;
+
+// How many strikes there can be: every option of every field can be struck once.
+pub const STRIKES: usize = 512;
 
 // A decision: a choose or an exclude that was done, with its field and option.
 #[derive(Clone, Copy, PartialEq, Eq, Debug)]
@@ -33,4 +40,14 @@ pub struct Strike {
 pub struct WipedOut {
     pub field: u8,
     pub rule: u8,
+}
+
+// A settle that was wiped out is refused with the field and the rule.
+impl From<WipedOut> for EngineFault {
+    ghost from_gives = { λ wiped fault. fault ≡ engine.WipedOut wiped.field wiped.rule };
+
+    fn from(wiped: WipedOut) -> EngineFault {
+        let WipedOut { field, rule } = wiped;
+        EngineFault::WipedOut { field, rule }
+    }
 }

@@ -26,9 +26,8 @@ pub fn put_back(sets: &mut [OptionSet], strikes: &[Strike], mark: usize)
     ensures after { words sets.new ≡ put_all (words sets.old) (drop mark strikes.now) }
     ensures restored { (rules : List Rule) (decisions : List Decision) (first : List ℕ) → Fit first → Struck rules decisions first (drop mark strikes.now) (words sets.old) → words sets.new ≡ first }
 {
-    let mut i = strikes.len();
-    while i > mark {
-        i -= 1;
-        put_back_one(sets, strikes[i]);
+    let later = &strikes[mark.min(strikes.len())..];
+    for strike in later.iter().rev() {
+        put_back_one(sets, *strike);
     }
 }

@@ -8,9 +8,10 @@ use books::formula::FormulaBook;
 use books::remembering::Remembering;
 use books::table::TableBook;
 use network::options::{OPTIONS, OptionSet};
+use network::rules::{Ends, FormulaRule};
 use propagation::opening::check_opening;
 use propagation::propagate::propagate;
-use propagation::record::{Strike, WipedOut};
+use propagation::record::{STRIKES, Strike, WipedOut};
 use propagation::undo::put_back;
 use std::alloc::Global;
 use std::process::Abort;
@@ -31,10 +32,7 @@ pub struct Example<'a> {
 }
 
 fn check_sets(rt: &impl Abort, found: &[OptionSet], wanted: &[OptionSet]) -> Result<(), Fail> {
-    assert_eq!(rt; found.len(), wanted.len());
-    for (set, other) in found.iter().zip(wanted.iter()) {
-        assert_eq!(rt; *set, *other);
-    }
+    assert_eq!(rt; found, wanted);
     Ok(())
 }
 
@@ -56,10 +54,10 @@ fn run<B: Book, W: Agenda>(
     sets: &mut [OptionSet],
     example: Example,
 ) -> Result<(), Fail> {
-    if let Err(_) = check_opening(book, sets) {
+    let Ok(()) = check_opening(book, sets) else {
         return Err(Fail::new("not accepted"));
-    }
-    let Ok(mut strikes) = Vec::<Strike>::with_capacity(heap, 512) else {
+    };
+    let Ok(mut strikes) = Vec::<Strike>::with_capacity(heap, STRIKES) else {
         return Err(Fail::new("no memory"));
     };
     assert_eq!(rt; propagate(sets, book, agenda, &mut strikes), example.answer);
@@ -94,10 +92,11 @@ fn row(book: &FormulaBook, rule: u8, left: u8) -> OptionSet {
 }
 
 // The rules of a book, up to three, as rows.
-pub fn rows(book: &FormulaBook) -> [OptionSet; ROWS] {
+fn rows(book: &FormulaBook) -> [OptionSet; ROWS] {
     let mut rows = [OptionSet::empty(); ROWS];
-    for place in 0..ROWS as u8 {
-        rows[place as usize] = row(book, place / OPTIONS, place % OPTIONS);
+    for (place, options) in rows.iter_mut().enumerate() {
+        let place = place as u8;
+        *options = row(book, place / OPTIONS, place % OPTIONS);
     }
     rows
 }
@@ -106,13 +105,14 @@ pub fn rows(book: &FormulaBook) -> [OptionSet; ROWS] {
 pub fn check_everywhere(
     rt: &impl Abort,
     heap: Global,
-    formulas: FormulaBook,
-    tables: TableBook,
+    rules: &[FormulaRule],
+    ends: &[Ends],
     sets: &mut [OptionSet],
     example: Example,
 ) -> Result<(), Fail> {
-    let mut formulas = formulas;
-    let mut tables = tables;
+    let mut formulas = FormulaBook::new(rules);
+    let rows = rows(&formulas);
+    let mut tables = TableBook::new(ends, &rows);
     with_agendas(rt, heap, &mut formulas, sets, example)?;
     with_agendas(rt, heap, &mut tables, sets, example)?;
     with_agendas(rt, heap, &mut Remembering::new(formulas), sets, example)?;

@@ -84,10 +84,10 @@ fn bytes_behind_the_frame_stay(rt: HostRuntime) {
 // The fault of a line is passed up whole.
 #[test]
 fn faults_are_passed_up(rt: HostRuntime) {
-    let bad = receive(b"0x\n");
-    let unknown = receive(b"07\n");
-    let cut = receive(b"0100\n");
-    assert!(rt; matches!(bad, Err(FrameFault::Line(LineFault::BadDigit { place: 1 }))));
-    assert!(rt; matches!(unknown, Err(FrameFault::Unknown)));
-    assert!(rt; matches!(cut, Err(FrameFault::Length)));
+    assert_eq!(rt;
+        receive(b"0x\n"),
+        Err(FrameFault::Line(LineFault::BadDigit { place: 1 }))
+    );
+    assert_eq!(rt; receive(b"07\n"), Err(FrameFault::Unknown));
+    assert_eq!(rt; receive(b"0100\n"), Err(FrameFault::Length));
 }

@@ -37,11 +37,7 @@ fn short_buffers(rt: HostRuntime) {
 fn bytes_behind_the_line_stay(rt: HostRuntime) {
     let mut line = [7u8; 5];
     assert_eq!(rt; write_line(&[0x3c], &mut line), Ok(3));
-    assert_eq!(rt; line[0], b'3');
-    assert_eq!(rt; line[1], b'C');
-    assert_eq!(rt; line[2], b'\n');
-    assert_eq!(rt; line[3], 7);
-    assert_eq!(rt; line[4], 7);
+    assert_eq!(rt; line.as_slice(), b"3C\n\x07\x07".as_slice());
 }
 
 #[test]
@@ -52,9 +48,5 @@ fn answers(rt: HostRuntime) {
         set: OptionSet::from(0x8000_0006),
     };
     assert_eq!(rt; shown.write(&mut line), Ok(13));
-    for (place, byte) in b"810180000006\n".iter().enumerate() {
-        assert!(rt; place < 14);
-        assert_eq!(rt; line[place], *byte);
-    }
-    assert_eq!(rt; line[13], 7);
+    assert_eq!(rt; line.as_slice(), b"810180000006\n\x07".as_slice());
 }

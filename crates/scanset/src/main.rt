@@ -3,6 +3,7 @@
 
 use anyhow::anyhow;
 use catalogue::preparation::Preparation;
+use faults::FrameFault;
 use frames::lines::LINE_BYTES;
 use network::options::{OPTIONS, OptionSet};
 use network::rules::{Ends, FIELDS, FormulaRule, Kind, RULES};
@@ -14,15 +15,26 @@ use std::io::{Read, Write};
 // Bytes read at a time.
 const CHUNK: usize = 65536;
 
-// Feeds some bytes of the input, and collects the answers.
+// Collects the answer that was written to a buffer.
+fn collect(
+    answers: &mut Vec<u8>,
+    line: &[u8],
+    answered: Result<usize, FrameFault>,
+) -> anyhow::Result<()> {
+    let Some(answer) = answered.ok().and_then(|n| line.get(..n)) else {
+        return Err(anyhow!("no room for an answer"));
+    };
+    answers.extend_from_slice(answer)?;
+    Ok(())
+}
+
+// Feeds some bytes of the input, and collects the answers. Most bytes end no line.
 fn feed_all(stream: &mut Stream, input: &[u8], answers: &mut Vec<u8>) -> anyhow::Result<()> {
     let mut line = [0u8; LINE_BYTES];
     for byte in input {
-        let Ok(n) = stream.feed(*byte, &mut line) else {
-            return Err(anyhow!("no room for an answer"));
-        };
-        if n <= LINE_BYTES {
-            answers.extend_from_slice(&line[0..n])?;
+        let answered = stream.feed(*byte, &mut line);
+        if answered != Ok(0) {
+            collect(answers, &line, answered)?;
         }
     }
     Ok(())
@@ -31,16 +43,12 @@ fn feed_all(stream: &mut Stream, input: &[u8], answers: &mut Vec<u8>) -> anyhow:
 // Collects the answer to what stands behind the last line feed.
 fn finish(stream: &mut Stream, answers: &mut Vec<u8>) -> anyhow::Result<()> {
     let mut line = [0u8; LINE_BYTES];
-    let Ok(n) = stream.finish(&mut line) else {
-        return Err(anyhow!("no room for an answer"));
-    };
-    if n <= LINE_BYTES {
-        answers.extend_from_slice(&line[0..n])?;
-    }
-    Ok(())
+    let answered = stream.finish(&mut line);
+    collect(answers, &line, answered)
 }
 
-// Moves bytes until the input ends or the session is over. Answers go out before more input is waited for.
+// Moves bytes until the input ends or the session is over. Answers go out before more input is waited for. Input may
+// never end, so the reads are bounded.
 fn serve(rt: &HostRuntime, stream: &mut Stream) -> anyhow::Result<()> {
     let heap = rt.alloc();
     let mut chunk = vec![in heap; 0u8; CHUNK]?;
@@ -50,7 +58,7 @@ fn serve(rt: &HostRuntime, stream: &mut Stream) -> anyhow::Result<()> {
         if n == 0 {
             finish(stream, &mut answers)?;
         } else {
-            feed_all(stream, &chunk.as_slice()[0..n], &mut answers)?;
+            feed_all(stream, &chunk[..n], &mut answers)?;
         }
         rt.stdout().write_all(answers.as_slice())?;
         answers.clear();
@@ -61,6 +69,7 @@ fn serve(rt: &HostRuntime, stream: &mut Stream) -> anyhow::Result<()> {
     Ok(())
 }
 
+// Lends the catalogue as much memory as the most fields and rules take, and serves the input.
 fn run(rt: &HostRuntime) -> anyhow::Result<()> {
     let heap = rt.alloc();
     let formula = FormulaRule {

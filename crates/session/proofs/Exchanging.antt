@@ -29,6 +29,11 @@ writes a room wide =
 size : (a : Answer) → 2 * length (answer_bytes a) + 1 ≡ length (line_of (answer_bytes a))
 size a = omega (arith, length_push (digits (answer_bytes a)) 10, length_digits (answer_bytes a))
 
+-- what tells an answer, or else a refusal
+pub told_by : (result : Result Answer Refusal) (a : Answer) → MatchResult result (λ answer. a ≡ answer) (λ e. a ≡ Refused (program_number e.fault) e.line) → a ≡ told_as result
+told_by (Ok answer) a h = h
+told_by (Err e) a h = h
+
 -- a step is a reply
 pub replied_by : (s s' : State) (line : List ℕ) (result : Result Answer Refusal) → Stepped s line (Some result) s' → Replied s line (told_as result) s'
 replied_by s s' line (Ok answer) h = record { before = h.0; counted = h.1; result = Ok answer; served = h.2; replies = refl }
@@ -50,6 +55,5 @@ pub exchanged : (s s' : State) (line out out' : List ℕ) (a : Answer) (r : Resu
     (whole : List ℕ) → take line_reach whole ≡ take line_reach line → Exchanged s whole out r out' s'
 exchanged s s' line out out' a r wide replied answer after whole start =
     let done : r ≡ Ok (2 * length (answer_bytes a) + 1) = answer ∙ writes a (length out) wide in
-    let buffer : out' ≡ line_of (answer_bytes a) ++ drop (2 * length (answer_bytes a) + 1) out = subst (λ x. MatchResult x (λ n. out' ≡ line_of (answer_bytes a) ++ drop n out) (λ _. out' ≡ out)) done after in
-    subst (λ x. Exchanged s whole out x out' s') (sym done)
-    (wide, inr (record { answer = a; replied = replied_alike s s' line whole a start replied; size = size a; buffer = buffer }))
+    let buffer = subst (λ x. MatchResult x (λ n. out' ≡ line_of (answer_bytes a) ++ drop n out) (λ _. out' ≡ out)) done after in
+    rw done (wide, inr (record { answer = a; replied = replied_alike s s' line whole a start replied; size = size a; buffer = buffer }))

@@ -1,10 +1,7 @@
 -- Fronts of a line that grows.
 use Rattle.std.proofs.Common.{◌≡◌, ℕ, List, [], ◌∷◌, ◌++◌, length, take, sym, ap, ◌∙◌, inl, inr, arith}
-use Rattle.std.proofs.lemmas.List.{length-take-le, take_all, take-take, take_at, take-append-le}
+use Rattle.std.proofs.lemmas.List.{length-take-le, take_all, take_at, take-append-le}
 use Rattle.std.proofs.lemmas.Bool.{cases_lt}
-
-pub reach_again : (n : ℕ) (line : List ℕ) → take n (take n line) ≡ take n line
-reach_again n line = take-take n n line (omega arith)
 
 -- one byte more
 pub reach_more : (n : ℕ) (line : List ℕ) (b : ℕ) → take n (take n line ++ b ∷ []) ≡ take n (line ++ b ∷ [])

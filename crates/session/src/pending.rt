@@ -4,11 +4,16 @@ ghost use Rattle.std.specs.Prelude.{◌≡◌, [], ◌∷◌, ◌++◌, length, 
 ghost use Rattle.frames.specs.Lines.{line_reach};
 ghost use Rattle.session.specs.Pending.{kept};
 
-// The first 34 bytes of a line that is not ended yet: as many as matter.
+use arrayvec::ArrayVec;
+use frames::lines::LINE_BYTES;
+
+// With one byte more than the longest line has, a line is too long whatever follows.
+const LINE_REACH: usize = LINE_BYTES + 1;
+
+// The first bytes of a line that is not ended yet: as many as matter.
 #[derive(Drop)]
 pub struct PendingLine {
-    bytes: [u8; 34],
-    held: usize,
+    bytes: ArrayVec<u8, LINE_REACH>,
 }
 
 impl PendingLine {
@@ -17,37 +22,34 @@ impl PendingLine {
         ensures { kept result ≡ [] }
     {
         PendingLine {
-            bytes: [0; 34],
-            held: 0,
+            bytes: ArrayVec::new(),
         }
     }
 
-    // One byte more. It is let go where 34 are kept.
+    // One byte more. It is let go where as many as matter are kept.
     pub fn push(&mut self, byte: u8)
         ensures { kept self.new ≡ take line_reach (kept self.old ++ byte ∷ []) }
     {
-        if self.held < 34 {
-            self.bytes[self.held] = byte;
-            self.held += 1;
+        if !self.bytes.is_full() {
+            self.bytes.push(byte);
         }
     }
 
     pub fn clear(&mut self)
         ensures { kept self.new ≡ [] }
     {
-        self.held = 0;
+        self.bytes.clear();
     }
 
     pub fn is_empty(&self) -> bool
         ensures { result ≡ (length (kept self.now) == 0) }
     {
-        self.held == 0
+        self.bytes.is_empty()
     }
 
     pub fn as_slice(&self) -> &[u8]
         ensures { result.now ≡ kept self.now }
     {
-        let n = self.held.min(34);
-        &self.bytes[0..n]
+        self.bytes.as_slice()
     }
 }

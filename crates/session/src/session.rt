@@ -1,12 +1,14 @@
 // Serving lines.
 
-ghost use Rattle.std.specs.Prelude.{◌≡◌, ℕ, List, take, ◌==◌};
+ghost use Rattle.std.specs.Prelude.{◌≡◌, ℕ, ◌<◌, ◌≤◌, List, length, take, MatchResult, ◌==◌};
 ghost use Rattle.catalogue.specs.View.{content};
 ghost use Rattle.faults.specs.Numbers.{program_number};
 ghost use Rattle.frames.specs.declared.answers.Answer.TheVariants.{Refused};
 ghost use Rattle.session.specs.Serving.{refusal, entered, verdict, outcome, Served};
-ghost use Rattle.frames.specs.Lines.{line_reach};
-ghost use Rattle.session.specs.Steps.{state, last_line, told_as, Stepped, Exchanged};
+ghost use Rattle.faults.specs.declared.LineFault.TheVariants.{ShortBuffer};
+ghost use Rattle.faults.specs.declared.FrameFault.TheVariants.{Line};
+ghost use Rattle.frames.specs.Lines.{line_limit, line_reach};
+ghost use Rattle.session.specs.Steps.{state, last_line, Stepped, Exchanged};
 
 use catalogue::preparation::Preparation;
 use faults::{FrameFault, LineFault, ProgramFault};
@@ -23,13 +25,14 @@ pub struct Session<'a> {
 }
 
 // A refusal: the number of the line, and the fault, which holds those below it whole.
-#[derive(Clone, Copy)]
+#[derive(Clone, Copy, PartialEq, Eq, Debug)]
 pub struct Refusal {
     pub line: u16,
     pub fault: ProgramFault,
 }
 
 // Enters what a frame of the catalogue holds; any other frame is misplaced.
+// A match: each frame has its own fields and its own call.
 fn enter(catalogue: &mut Preparation, frame: Frame) -> Result<(), ProgramFault>
     ensures answers { result ≡ verdict (refusal (content catalogue.old) frame) }
     ensures after { content catalogue.new ≡ outcome (refusal (content catalogue.old) frame) (content catalogue.old) (entered (content catalogue.old) frame) }
@@ -54,26 +57,26 @@ fn enter(catalogue: &mut Preparation, frame: Frame) -> Result<(), ProgramFault>
     Ok(())
 }
 
-impl Refusal {
-    // The answer that tells a refusal: its number and its line.
-    pub fn answer(self) -> Answer
-        ensures { result ≡ Refused (program_number self.fault) self.line }
-    {
+// A refusal is answered by its number and its line.
+impl From<Refusal> for Answer {
+    ghost from_gives = { λ refusal answer. answer ≡ Refused (program_number refusal.fault) refusal.line };
+
+    fn from(refusal: Refusal) -> Answer {
         Answer::Refused {
-            number: self.fault.number(),
-            line: self.line,
+            number: refusal.fault.number(),
+            line: refusal.line,
         }
     }
 }
 
-// The answer that a line gets, done or refused.
-fn told(res: Result<Answer, Refusal>) -> Answer
-    ensures { result ≡ told_as res }
+// A buffer has room for every answer where it has room for the longest line.
+pub(crate) fn check_room(out: &[u8]) -> Result<(), FrameFault>
+    ensures { MatchResult result (λ _. line_limit ≤ length out.now) (λ fault. (length out.now < line_limit) × (fault ≡ Line ShortBuffer)) }
 {
-    match res {
-        Ok(answer) => answer,
-        Err(refusal) => refusal.answer(),
+    if out.len() < LINE_BYTES {
+        return Err(LineFault::ShortBuffer.into());
     }
+    Ok(())
 }
 
 impl<'a> Session<'a> {
@@ -112,26 +115,23 @@ impl<'a> Session<'a> {
             return None;
         }
         self.lines += 1;
-        match self.serve(line) {
-            Ok(answer) => Some(Ok(answer)),
-            Err(fault) => Some(Err(Refusal {
-                line: self.lines,
-                fault,
-            })),
-        }
+        let served = self.serve(line);
+        Some(served.map_err(|fault| Refusal {
+            line: self.lines,
+            fault,
+        }))
     }
 
     // Answers one line with the bytes of a line, and tells how many: none once 65,535 lines were answered. A buffer
     // with less room than the longest line is refused, and nothing changes. Only the first 34 bytes of a line matter.
+    // No answer is told by 0 and no Option: it is how many bytes were written.
     pub fn exchange(&mut self, line: &[u8], out: &mut [u8]) -> Result<usize, FrameFault>
         ensures { (whole : List ℕ) → take line_reach whole ≡ take line_reach line.now → Exchanged (state self.old) whole out.old result out.new (state self.new) }
     {
-        if out.len() < LINE_BYTES {
-            return Err(LineFault::ShortBuffer.into());
-        }
-        match self.step(line) {
-            Some(result) => told(result).write(out),
-            None => Ok(0),
-        }
+        check_room(out)?;
+        let Some(result) = self.step(line) else {
+            return Ok(0);
+        };
+        result.unwrap_or_else(Answer::from).write(out)
     }
 }

@@ -1,5 +1,6 @@
 -- The run of a tightening: what holds between two probes, and what each probe does to it.
-use Rattle.std.proofs.Common.{◌≡◌, ℕ, ◌+◌, ◌<◌, Bool, true, false, cond, not, ◌&&◌, T, eqb, ◌≢◌, List, length, sym, refl, subst, ⊎_elim, arith, eqb→eq}
+use Rattle.std.proofs.Common.{◌≡◌, ℕ, ◌+◌, ◌<◌, not, ◌&&◌, T, eqb, ◌≢◌, List, length, sym, refl, subst, ⊎_elim, arith, eqb→eq}
+use Rattle.std.proofs.lemmas.Grind.{common_steps}
 use Rattle.std.proofs.lemmas.Bool.{cases_eq, eq-eqb}
 use Rattle.network.specs.Network.{Rule, rule_at, Part, part, InLargest, Largest}
 use Rattle.propagation.specs.Opening.{IsWipedOut}
@@ -7,7 +8,8 @@ use Rattle.books.specs.Pairs.{Pairs, pair_rules}
 use Rattle.tightening.specs.Underway.{Probed, Underway}
 use Rattle.tightening.specs.Tightening.{Stands, less_pairs, narrowed, Tightest, TightWipedOut, RowsAreExact}
 use Rattle.network.proofs.Truth.{T_yes, and_T, T_left, T_right}
-use Rattle.tightening.proofs.Sets.{field_within}
+use Rattle.std.proofs.Math.Dec.{not_T, T_not}
+use Rattle.propagation.proofs.Strikes.{is_field}
 use Rattle.tightening.proofs.Theory.{arc_supported, in_largest, narrowed_to, covers_start, covers_struck, covers_pruned, covers_empty, probed_after, end_tightest, tightest_rows}
 
 -- p' and q' are p and q less option a of field x and its pairs
@@ -27,14 +29,6 @@ pub record LessPairs (q q' : Pairs) (x a : ℕ) (l : Part) : Type 0 where
   pub kept : (y b : ℕ) → T (q' x a y b) → T (l y b)
   pub kept_back : (y b : ℕ) → T (q' y b x a) → T (l y b)
 
-cond_in : (c l : Bool) → (T c → T l) → T (cond c l true)
-cond_in true l f = f tt
-cond_in false l f = tt
-
-cond_out : (c l : Bool) → T (cond c l true) → T c → T l
-cond_out true l t s = t
-cond_out false l t s = absurd s
-
 same_from : (x a y b : ℕ) → y ≡ x → b ≡ a → T (eqb y x && eqb b a)
 same_from x a y b e f = and_T _ _ (T_yes _ (eq-eqb y x e)) (T_yes _ (eq-eqb b a f))
 
@@ -42,15 +36,7 @@ same_both : {P : Type 0} (x a y b : ℕ) → (y ≡ x → b ≡ a → P) → T (
 same_both x a y b f t = f (eqb→eq y x (T_left (eqb y x) _ t)) (eqb→eq b a (T_right (eqb y x) _ t))
 
 pub less_pairs_is : (q q' : Pairs) (x a : ℕ) (l : Part) → ((y b z c : ℕ) → q' y b z c ≡ less_pairs q x a l y b z c) → LessPairs q q' x a l
-less_pairs_is q q' x a l e = record {
-  stay = λ y b z c t f g. subst T (sym (e y b z c))
-      (and_T _ _ t (and_T _ _ (cond_in (eqb y x && eqb b a) (l z c) (same_both x a y b f)) (cond_in (eqb z x && eqb c a) (l y b) (same_both x a z c g))));
-  only = λ y b z c t. T_left (q y b z c) _ (subst T (e y b z c) t);
-  kept = λ y b t.
-      cond_out (eqb x x && eqb a a) (l y b) (T_left (cond (eqb x x && eqb a a) (l y b) true) _ (T_right (q x a y b) _ (subst T (e x a y b) t))) (same_from x a x a refl refl);
-  kept_back = λ y b t.
-      cond_out (eqb x x && eqb a a) (l y b) (T_right (cond (eqb y x && eqb b a) (l x a) true) _ (T_right (q y b x a) _ (subst T (e y b x a) t))) (same_from x a x a refl refl);
-}
+less_pairs_is q q' x a l e = grind (arith, common_steps)
 
 -- where l keeps nothing, all the pairs of the option go
 pub less_option_is : (p p' : Part) (q q' : Pairs) (x a : ℕ) (l : Part) → ((y b : ℕ) → p' y b ≡ (p y b && not (eqb y x && eqb b a)))
@@ -58,22 +44,14 @@ pub less_option_is : (p p' : Part) (q q' : Pairs) (x a : ℕ) (l : Part) → ((y
 less_option_is p p' q q' x a l d none e =
     let lp = less_pairs_is q q' x a l e in
     record {
-      options_stay = λ y b t f. subst T (sym (d y b)) (and_T _ _ t (not_in (eqb y x && eqb b a) (same_both x a y b f)));
+      options_stay = λ y b t f. subst T (sym (d y b)) (and_T _ _ t (not_T (eqb y x && eqb b a) (same_both x a y b f)));
       options_only = λ y b t. T_left (p y b) _ (subst T (d y b) t);
-      options_gone = λ t. not_out (eqb x x && eqb a a) (T_right (p x a) _ (subst T (d x a) t)) (same_from x a x a refl refl);
+      options_gone = λ t. T_not (eqb x x && eqb a a) (T_right (p x a) _ (subst T (d x a) t)) (same_from x a x a refl refl);
       pairs_stay = λ y b z c t f g. lp.stay y b z c t (λ i j. absurd (f i j)) (λ i j. absurd (g i j));
       pairs_only = lp.only;
       pairs_gone = λ y b t. none y b (lp.kept y b t);
       pairs_gone_back = λ y b t. none y b (lp.kept_back y b t);
     }
-  where
-    not_in : (c : Bool) → (T c → ⊥) → T (not c)
-    not_in true f = f tt
-    not_in false f = tt
-
-    not_out : (c : Bool) → T (not c) → T c → ⊥
-    not_out true t s = t
-    not_out false t s = s
 
 module _ (rules : List Rule) (sets : List ℕ) where
   -- a probe that is done stays done where the options and the pairs that go are all of an option that it is not paired with
@@ -121,10 +99,6 @@ module _ (rules : List Rule) (sets : List ℕ) where
     pub forth : (r : ℕ) → r < k → (rule_at rules r).left ≡ x → (rule_at rules r).right ≡ y → T ((rule_at rules r).allows a b)
     pub back : (r : ℕ) → r < k → (rule_at rules r).left ≡ y → (rule_at rules r).right ≡ x → T ((rule_at rules r).allows b a)
 
-  pub stands_none : (x a y b : ℕ) → x ≢ y → T (part sets x a) → T (part sets y b) → StandsUnder 0 x a y b
-  stands_none x a y b ne s t =
-      record { apart = ne; first = s; second = t; forth = λ r l _ _. absurd (omega arith); back = λ r l _ _. absurd (omega arith) }
-
   pub stands_more : (k x a y b : ℕ) → StandsUnder k x a y b
       → ((rule_at rules k).left ≡ x → (rule_at rules k).right ≡ y → T ((rule_at rules k).allows a b))
       → ((rule_at rules k).left ≡ y → (rule_at rules k).right ≡ x → T ((rule_at rules k).allows b a))
@@ -151,13 +125,7 @@ module _ (rules : List Rule) (sets : List ℕ) where
   }
 
   pub stands_mirror : (k x a y b : ℕ) → StandsUnder k x a y b → StandsUnder k y b x a
-  stands_mirror k x a y b s = record { apart = λ e. s.apart (sym e); first = s.second; second = s.first; forth = s.back; back = s.forth }
-
-  pub stands_all : (x a y b : ℕ) → StandsUnder (length rules) x a y b → Stands rules sets x a y b
-  stands_all x a y b s = record { apart = s.apart; first = s.first; second = s.second; forth = s.forth; back = s.back }
-
-  pub all_stands : (x a y b : ℕ) → Stands rules sets x a y b → StandsUnder (length rules) x a y b
-  all_stands x a y b s = record { apart = s.apart; first = s.first; second = s.second; forth = s.forth; back = s.back }
+  stands_mirror k x a y b s = grind (arith, common_steps)
 
   pub underway_start : (waits : Part) (q : Pairs)
       → ((x a y b : ℕ) → Stands rules sets x a y b → T (q x a y b))
@@ -178,7 +146,7 @@ module _ (rules : List Rule) (sets : List ℕ) where
       → ((y b : ℕ) → T (p y b) → T (q y b x a) → T (waits' y b))
       → Underway rules sets waits' p' q'
   underway_struck waits waits' p p' q q' x a w t out less again paired =
-      let field : (y b : ℕ) → T (p y b) → y < length sets = λ y b s. field_within sets y b (w.standing.options y b s) in
+      let field : (y b : ℕ) → T (p y b) → y < length sets = λ y b s. is_field sets y b (w.standing.options y b s) in
       record {
         covers = covers_struck rules sets p p' q q' x a w.covers out less.options_stay less.pairs_stay;
         standing = record {
@@ -205,7 +173,7 @@ module _ (rules : List Rule) (sets : List ℕ) where
       → ((y b : ℕ) → T (p y b) → T (q y b x a) → T (waits' y b))
       → Underway rules sets waits' p q'
   underway_pruned waits waits' p q q' x a l w t large full less again paired =
-      let field : (y b : ℕ) → T (p y b) → y < length sets = λ y b s. field_within sets y b (w.standing.options y b s) in
+      let field : (y b : ℕ) → T (p y b) → y < length sets = λ y b s. is_field sets y b (w.standing.options y b s) in
       let self : Probed rules sets p q' x a =
       probed_after rules sets p q q' x a l large full (λ y b z c s i j. less.stay y b z c s (λ _ _. j) (λ _ _. i)) less.kept in
       let other : (u c : ℕ) → T (p u c) → (T (waits' u c) → ⊥) → (u ≡ x → c ≡ a → ⊥) → Probed rules sets p q' u c =
@@ -267,13 +235,6 @@ module _ (rules : List Rule) (sets : List ℕ) where
   -- a full exact part is not wiped out
   pub tightest_full : (p : Part) (q : Pairs) → Tightest rules sets p q → ((x : ℕ) → x < length sets → (a : ℕ) × T (p x a)) → TightWipedOut rules sets → ⊥
   tightest_full p q h full (x, (l, none)) = let a = full x l in none a.0 (h.all_options x a.0 a.1)
-
--- what is exact is the same options and the same pairs
-pub tightest_same_options : (rules : List Rule) (sets : List ℕ) (p p' : Part) (q q' : Pairs) → Tightest rules sets p q → Tightest rules sets p' q' → (x a : ℕ) → T (p x a) → T (p' x a)
-tightest_same_options rules sets p p' q q' h k x a t = k.only_options x a (h.all_options x a t)
-
-pub tightest_same_pairs : (rules : List Rule) (sets : List ℕ) (p p' : Part) (q q' : Pairs) → Tightest rules sets p q → Tightest rules sets p' q' → (x a y b : ℕ) → T (q x a y b) → T (q' x a y b)
-tightest_same_pairs rules sets p p' q q' h k x a y b t = k.only_pairs x a y b (h.all_pairs x a y b t)
 
 pub rows_are_exact : RowsAreExact
 rows_are_exact = tightest_rows

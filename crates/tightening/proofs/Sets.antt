@@ -1,56 +1,10 @@
 -- What a list of set words keeps once an option is struck, or a word is put in.
-use Rattle.std.proofs.Common.{◌≡◌, ℕ, zero, suc, ◌+◌, ◌-◌, ◌^◌, ◌<◌, not, ◌&&◌, T, eqb, List, [], ◌∷◌, length, get_or, set, sym, ap, ◌∙◌, subst, ⊎_elim, arith}
-use lib.Dec.{eqb_refl}
-use lib.Count.{ones}
-use Rattle.std.proofs.lemmas.List.{get_or-set_same, get_or-set_other, get_or_past, set_past}
-use Rattle.std.proofs.lemmas.Bool.{ne_eqb, cases_eq, cases_lt}
-use Rattle.network.specs.Network.{has, part}
-use Rattle.propagation.specs.Strikes.{without, options}
-use Rattle.network.proofs.Truth.{yes_T, T_no, and_true, and_false}
-use Rattle.network.proofs.Bits.{none_of_zero, has_less, ones_less}
+use Rattle.std.proofs.Common.{◌≡◌, ℕ, zero, suc, get_or, replicate, refl}
+use Rattle.network.specs.Network.{words}
+use Rattle.network.specs.declared.options.OptionSet.{OptionSet}
 
-pub field_within : (sets : List ℕ) (x a : ℕ) → T (part sets x a) → x < length sets
-field_within sets x a t =
-    ⊎_elim (λ h. h) (λ h. absurd (T_no _ (ap (λ w. has w a) (get_or_past sets x 0 h) ∙ none_of_zero a) t)) (cases_lt x (length sets))
-
-pub part_same : (sets : List ℕ) (x v b : ℕ) → x < length sets → part (set sets x v) x b ≡ has v b
-part_same sets x v b h = ap (λ w. has w b) (get_or-set_same sets x v 0 h)
-
-pub part_other : (sets : List ℕ) (x v y b : ℕ) → (y ≡ x → ⊥) → part (set sets x v) y b ≡ part sets y b
-part_other sets x v y b n = ap (λ w. has w b) (get_or-set_other sets x y v 0 n)
-
-pub part_without : (sets : List ℕ) (x a y b : ℕ) → T (part sets x a) → part (without sets x a) y b ≡ (part sets y b && not (eqb y x && eqb b a))
-part_without sets x a y b t =
-    ⊎_elim
-    (λ e. subst (λ z. part (without sets x a) z b ≡ (part sets z b && not (eqb z x && eqb b a))) (sym e)
-    (part_same sets x (get_or sets x 0 - 2 ^ a) b (field_within sets x a t) ∙ has_less (get_or sets x 0) a b t
-    ∙ ap (λ v. part sets x b && not (v && eqb b a)) (sym (yes_T (eqb x x) (eqb_refl x)))))
-    (λ n. part_other sets x (get_or sets x 0 - 2 ^ a) y b n ∙ sym (and_true (part sets y b)) ∙ ap (λ v. part sets y b && not (v && eqb b a)) (sym (ne_eqb y x n)))
-    (cases_eq y x)
-
-pub options_set : (sets : List ℕ) (x v : ℕ) → x < length sets → options (set sets x v) + ones (get_or sets x 0) ≡ options sets + ones v
-options_set [] x v h = absurd (omega arith)
-options_set (w ∷ ws) zero v h = omega arith
-options_set (w ∷ ws) (suc x) v h = let r = options_set ws x v (omega arith) in omega arith
-
-pub options_without : (sets : List ℕ) (x a : ℕ) → T (part sets x a) → options (without sets x a) + 1 ≡ options sets
-options_without sets x a t =
-    let h = options_set sets x (get_or sets x 0 - 2 ^ a) (field_within sets x a t) in omega (arith, ones_less (get_or sets x 0) a t)
-
-pub fit_set : (sets : List ℕ) (x v k : ℕ) → ((y : ℕ) → get_or sets y 0 < k) → v < k → (y : ℕ) → get_or (set sets x v) y 0 < k
-fit_set sets x v k f h y =
-    ⊎_elim
-    (λ e. ⊎_elim (λ l. subst (λ n. n < k) (sym (ap (λ z. get_or (set sets x v) z 0) e ∙ get_or-set_same sets x v 0 l)) h)
-    (λ l. subst (λ s. get_or s y 0 < k) (sym (set_past sets x v l)) (f y)) (cases_lt x (length sets)))
-    (λ n. subst (λ m. m < k) (sym (get_or-set_other sets x y v 0 n)) (f y))
-    (cases_eq y x)
-
-pub fit_without : (sets : List ℕ) (x a k : ℕ) → ((y : ℕ) → get_or sets y 0 < k) → (y : ℕ) → get_or (without sets x a) y 0 < k
-fit_without sets x a k f = fit_set sets x (get_or sets x 0 - 2 ^ a) k f (let h = f x in omega arith)
-
--- an option that is struck is gone
-pub not_there : (sets : List ℕ) (x a : ℕ) → T (part sets x a) → T (part (without sets x a) x a) → ⊥
-not_there sets x a t s =
-    T_no _ (part_without sets x a x a t
-    ∙ ap (λ v. part sets x a && not (v && eqb a a)) (yes_T (eqb x x) (eqb_refl x))
-    ∙ ap (λ v. part sets x a && not v) (yes_T (eqb a a) (eqb_refl a)) ∙ and_false (part sets x a)) s
+-- sets without an option
+pub all_empty : (k i : ℕ) (v : OptionSet) → v.word ≡ 0 → get_or (words (replicate k v)) i 0 ≡ 0
+all_empty zero i v e = refl
+all_empty (suc k) zero v e = e
+all_empty (suc k) (suc i) v e = all_empty k i v e

@@ -1,21 +1,23 @@
 -- Taking pairs away, word by word.
-use Rattle.std.proofs.Common.{◌≡◌, ℕ, zero, suc, ◌+◌, ◌-◌, ◌*◌, ◌^◌, ◌<◌, ◌≤◌, Bool, true, false, cond, not, ◌&&◌, ◌||◌, T, eqb, ltb, ◌≢◌, ◌⊎◌, List, length, get_or, set, sym, refl, ap, ◌∙◌, subst, inl, inr, ⊎_elim, pow-suc, arith, eqb→eq, ltb→lt, lt→ltb}
+use Rattle.std.proofs.Common.{◌≡◌, ℕ, zero, suc, ◌+◌, ◌-◌, ◌*◌, ◌^◌, ◌<◌, ◌≤◌, Bool, true, false, cond, not, ◌&&◌, ◌||◌, T, eqb, ltb, ◌≢◌, ◌⊎◌, List, length, get_or, set, sym, ap, ◌∙◌, subst, inl, inr, ⊎_elim, pow-suc, arith}
+use Rattle.std.proofs.lemmas.Grind.{common_steps}
 use lib.Bits.{bit_and}
+use Rattle.std.proofs.Math.Dec.{not_T}
 use lib.Count.{ones}
-use Rattle.std.proofs.lemmas.List.{get_or-set_other, length-set, drop-set-lt}
-use Rattle.std.proofs.lemmas.Bool.{cases_Bool, cases_eq, eq-eqb}
+use Rattle.std.proofs.lemmas.List.{get_or-set_other, length-set}
+use Rattle.std.proofs.lemmas.Bool.{cases_eq, eq-eqb}
 use Rattle.network.specs.Network.{has, Part}
 use Rattle.network.specs.Sets.{set_without}
-use Rattle.network.proofs.Truth.{T_yes, and_T, T_left, T_right, same_test}
-use Rattle.network.proofs.Bits.{has_less, has_and, ones_and, none_of_zero}
+use Rattle.network.proofs.Truth.{T_right, same_test}
+use Rattle.network.proofs.Bits.{has_less, has_and, ones_and}
 use Rattle.network.proofs.Masks.{has_without, ones_without}
 use Rattle.books.specs.Pairs.{Pairs, word_at, pairs_of}
 use Rattle.propagation.specs.Strikes.{options}
 use Rattle.tightening.specs.Rows.{InTable, TwoWay, pairs_in, less_back, less_toward, less_below, AllPass, Leaves, word_to}
 use Rattle.tightening.specs.Tightening.{less_pairs}
-use Rattle.tightening.specs.declared.rows.Row.{Row}
+use Rattle.tightening.specs.declared.rows.Choice.{Choice}
 use Rattle.tightening.proofs.PairWords.{pairs_at, pairs_range, pairs_written, word_below, word_apart}
-use Rattle.tightening.proofs.Sets.{options_set}
+use Rattle.propagation.proofs.Strikes.{options_set}
 
 pub cond_in : (c l : Bool) → (T c → T l) → T (cond c l true)
 cond_in true l f = f tt
@@ -37,17 +39,9 @@ pub or_cases : (a b : Bool) → T (a || b) → T a ⊎ T b
 or_cases true b t = inl tt
 or_cases false b t = inr t
 
-not_T : (a : Bool) → (T a → ⊥) → T (not a)
-not_T true f = f tt
-not_T false f = tt
-
-T_not : (a : Bool) → T (not a) → T a → ⊥
-T_not true t s = t
-T_not false t s = s
-
 -- three numbers are those of a place
 pub these : (u x b a v y : ℕ) → u ≡ x → b ≡ a → v ≡ y → T (eqb u x && (eqb b a && eqb v y))
-these u x b a v y e f g = and_T _ _ (T_yes _ (eq-eqb u x e)) (and_T _ _ (T_yes _ (eq-eqb b a f)) (T_yes _ (eq-eqb v y g)))
+these u x b a v y e f g = grind (arith, common_steps)
 
 pub record Are (u x b a v y : ℕ) : Type 0 where
   pub first : u ≡ x
@@ -55,16 +49,9 @@ pub record Are (u x b a v y : ℕ) : Type 0 where
   pub second : v ≡ y
 
 pub are : (u x b a v y : ℕ) → T (eqb u x && (eqb b a && eqb v y)) → Are u x b a v y
-are u x b a v y t =
-    let r = T_right (eqb u x) _ t in
-    record { first = eqb→eq u x (T_left (eqb u x) _ t); option = eqb→eq b a (T_left (eqb b a) _ r); second = eqb→eq v y (T_right (eqb b a) _ r) }
+are u x b a v y t = grind (arith, common_steps)
 
--- a pair under other names of its numbers
-moved : (q : Pairs) (u x b a v y c d : ℕ) → u ≡ x → b ≡ a → v ≡ y → c ≡ d → T (q u b v c) → T (q x a y d)
-moved q u x b a v y c d e f g h t =
-    subst (λ n. T (q n a y d)) e (subst (λ n. T (q u n y d)) f (subst (λ n. T (q u b n d)) g (subst (λ n. T (q u b v n)) h t)))
-
-module _ (row : Row) (words : List ℕ) (at : InTable row words) (y : ℕ) (inside : y < row.fields) where
+module _ (row : Choice) (words : List ℕ) (at : InTable row words) (y : ℕ) (inside : y < row.fields) where
   abbrev n : ℕ
   n = row.fields
 
@@ -94,89 +81,29 @@ module _ (row : Row) (words : List ℕ) (at : InTable row words) (y : ℕ) (insi
   pub partner_option : TwoWay q → (b : ℕ) → T (has (word_to row words y) b) → b < 32
   partner_option two b t = (pairs_range n words y b x a (two.mirrored x a y b (telling b t))).option
 
-  -- at first nothing is taken away
-  pub back_start : (keep : ℕ → Bool) → TwoWay q → Leaves n words words (less_back q x a y (λ b. keep b || has (word_to row words y) b))
-  back_start keep two = record {
-    pairs = λ u b v c.
-        let g = eqb v x && (eqb c a && eqb u y) in
-        same_test (q u b v c) _
-        (λ t. and_T _ _ t (cond_in g _ (λ s.
-        let e = are v x c a u y s in
-        or_right (keep b) _ (told b (two.mirrored y b x a (moved q u y b b v x c a e.second refl e.first e.option t))))))
-        (λ t. T_left (q u b v c) _ t);
-    beyond = refl;
-    long = refl;
-    fewer = omega arith;
-  }
-
 -- what passes is the same, and so is what is left
 pub back_same : (q : Pairs) (x a y : ℕ) (f g : ℕ → Bool) → ((b : ℕ) → f b ≡ g b) → (u b v c : ℕ) → less_back q x a y f u b v c ≡ less_back q x a y g u b v c
 back_same q x a y f g e u b v c = ap (λ t. q u b v c && cond (eqb v x && (eqb c a && eqb u y)) t true) (e b)
 
 -- an option that passes need not wait
 pub skip_passes : (keep : ℕ → Bool) (w d : ℕ) → T (has w d) → T (keep d) → (b : ℕ) → (keep b || has w b) ≡ (keep b || has (w - 2 ^ d) b)
-skip_passes keep w d h k b =
-    same_test (keep b || has w b) (keep b || has (w - 2 ^ d) b)
-    (λ t. ⊎_elim (or_left (keep b) _)
-    (λ (s : T (has w b)). ⊎_elim
-    (λ e. or_left (keep b) _ (subst (λ c. T (keep c)) (sym e) k))
-    (λ ne. or_right (keep b) _ (subst T (sym (has_less w d b h)) (and_T _ _ s (not_T (eqb b d) (λ e. ne (eqb→eq b d e))))))
-    (cases_eq b d))
-    (or_cases (keep b) (has w b) t))
-    (λ t. ⊎_elim (or_left (keep b) _)
-    (λ (s : T (has (w - 2 ^ d) b)). or_right (keep b) _ (T_left (has w b) _ (subst T (has_less w d b h) s)))
-    (or_cases (keep b) (has (w - 2 ^ d) b) t))
+skip_passes keep w d h k b = grind (arith, common_steps, has_less, not_T, or_cases, or_left, or_right, same_test)
 
 -- once nothing waits, what passes is what is kept
 pub none_waits : (keep : ℕ → Bool) (w : ℕ) → w ≡ 0 → (b : ℕ) → (keep b || has w b) ≡ keep b
-none_waits keep w e b = ap (λ v. keep b || has v b) e ∙ ap (λ t. keep b || t) (none_of_zero b) ∙ or_none (keep b)
-  where
-    or_none : (t : Bool) → (t || false) ≡ t
-    or_none true = refl
-    or_none false = refl
+none_waits keep w e b = grind (arith, common_steps)
 
 -- one option is taken back
 pub back_step : (q q₁ q₂ : Pairs) (x a y w d : ℕ) (keep : ℕ → Bool) → T (has w d) → (T (keep d) → ⊥)
     → ((u b v c : ℕ) → q₁ u b v c ≡ less_back q x a y (λ b. keep b || has w b) u b v c)
     → ((u b v c : ℕ) → q₂ u b v c ≡ (q₁ u b v c && cond (eqb u y && (eqb b d && eqb v x)) (not (eqb c a)) true))
     → (u b v c : ℕ) → q₂ u b v c ≡ less_back q x a y (λ b. keep b || has (w - 2 ^ d) b) u b v c
-back_step q q₁ q₂ x a y w d keep h out is is' u b v c =
-    let g = eqb v x && (eqb c a && eqb u y) in
-    let k = eqb u y && (eqb b d && eqb v x) in
-    is' u b v c
-    ∙ ap (λ t. t && cond k (not (eqb c a)) true) (is u b v c)
-    ∙ same_test ((q u b v c && cond g (keep b || has w b) true) && cond k (not (eqb c a)) true) (q u b v c && cond g (keep b || has (w - 2 ^ d) b) true)
-    (λ t.
-    let l = T_left (q u b v c && cond g (keep b || has w b) true) _ t in
-    and_T _ _ (T_left (q u b v c) _ l) (cond_in g _ (λ s.
-    let e = are v x c a u y s in
-    ⊎_elim (or_left (keep b) _)
-    (λ (i : T (has w b)). or_right (keep b) _ (subst T (sym (has_less w d b h)) (and_T _ _ i
-    (not_T (eqb b d) (λ eq. T_not (eqb c a) (cond_out k _ (T_right (q u b v c && cond g (keep b || has w b) true) _ t) (these u y b d v x e.second (eqb→eq b d eq) e.first)) (T_yes _ (eq-eqb c a e.option)))))))
-    (or_cases (keep b) (has w b) (cond_out g _ (T_right (q u b v c) _ l) s)))))
-    (λ t.
-    let pass = T_right (q u b v c) _ t in
-    and_T _ _ (and_T _ _ (T_left (q u b v c) _ t) (cond_in g _ (λ s.
-    ⊎_elim (or_left (keep b) _)
-    (λ (i : T (has (w - 2 ^ d) b)). or_right (keep b) _ (T_left (has w b) _ (subst T (has_less w d b h) i)))
-    (or_cases (keep b) (has (w - 2 ^ d) b) (cond_out g _ pass s)))))
-    (cond_in k _ (λ s.
-    let e = are u y b d v x s in
-    not_T (eqb c a) (λ eq.
-    ⊎_elim
-    (λ (i : T (keep b)). out (subst (λ m. T (keep m)) e.option i))
-    (λ (i : T (has (w - 2 ^ d) b)). T_not (eqb b d) (T_right (has w b) _ (subst T (has_less w d b h) i)) (T_yes _ (eq-eqb b d e.option)))
-    (or_cases (keep b) (has (w - 2 ^ d) b) (cond_out g _ pass (these v x c a u y e.second (eqb→eq c a eq) e.first)))))))
+back_step q q₁ q₂ x a y w d keep h out is is' u b v c = grind (arith, common_steps, are, cond_in, cond_out, eq-eqb, has_less, not_T, or_cases, or_left, or_right, same_test, these)
 
 -- a write below the end that takes no option in
 pub write_leaves : (n : ℕ) (words words₁ : List ℕ) (q q' : Pairs) (i v : ℕ) → Leaves n words words₁ q → i < n * 512 → i < length words₁ → ones v ≤ ones (get_or words₁ i 0)
     → ((x a y b : ℕ) → pairs_of n (set words₁ i v) x a y b ≡ q' x a y b) → Leaves n words (set words₁ i v) q'
-write_leaves n words words₁ q q' i v l inside long less is = record {
-  pairs = is;
-  beyond = drop-set-lt (n * 512) words₁ i v inside ∙ l.beyond;
-  long = length-set words₁ i v ∙ l.long;
-  fewer = omega (arith, options_set words₁ i v long, less, l.fewer);
-}
+write_leaves n words words₁ q q' i v l inside long less is = grind (arith, common_steps, length-set, options_set)
 
 -- a number is below the power
 pub below_power : (n : ℕ) → n < 2 ^ n
@@ -184,13 +111,9 @@ below_power zero = omega arith
 below_power (suc n) = omega (arith, below_power n, pow-suc 2 n)
 
 fewer_without : (w a : ℕ) → ones (set_without w a) ≤ ones w
-fewer_without w a =
-    ⊎_elim
-    (λ (t : has w a ≡ true). omega (arith, ones_without w a (T_yes _ t)))
-    (λ (t : has w a ≡ false). subst (λ b. ones (cond b (w - 2 ^ a) w) ≤ ones w) (sym t) (omega arith))
-    (cases_Bool (has w a))
+fewer_without w a = grind (arith, common_steps, ones, ones_without)
 
-module _ (row : Row) (words words₁ : List ℕ) (at : InTable row words) (y : ℕ) (inside : y < row.fields) (apart : row.field ≢ y) (keep : ℕ → Bool) where
+module _ (row : Choice) (words words₁ : List ℕ) (at : InTable row words) (y : ℕ) (inside : y < row.fields) (apart : row.field ≢ y) (keep : ℕ → Bool) where
   abbrev left : (ℕ → Bool) → Pairs
   left = less_back (pairs_in row words) row.field row.option y
 
@@ -218,21 +141,12 @@ module _ (row : Row) (words words₁ : List ℕ) (at : InTable row words) (y : �
   pub step_skip : (w d : ℕ) → T (has w d) → T (keep d) → Leaves row.fields words words₁ (left (λ b. keep b || has w b)) → Leaves row.fields words words₁ (left (λ b. keep b || has (w - 2 ^ d) b))
   step_skip w d h k now = record {
     pairs = λ u b v c. now.pairs u b v c ∙ back_same (pairs_in row words) row.field row.option y _ _ (skip_passes keep w d h k) u b v c;
-    beyond = now.beyond;
-    long = now.long;
-    fewer = now.fewer;
-  }
-
-  pub step_end : (w : ℕ) → w ≡ 0 → Leaves row.fields words words₁ (left (λ b. keep b || has w b)) → Leaves row.fields words words₁ (left keep)
-  step_end w e now = record {
-    pairs = λ u b v c. now.pairs u b v c ∙ back_same (pairs_in row words) row.field row.option y _ _ (none_waits keep w e) u b v c;
-    beyond = now.beyond;
     long = now.long;
     fewer = now.fewer;
   }
 
 -- and out of its own word by a mask
-module _ (row : Row) (words words₁ : List ℕ) (at : InTable row words) (y : ℕ) (inside : y < row.fields) (mask v : ℕ) where
+module _ (row : Choice) (words words₁ : List ℕ) (at : InTable row words) (y : ℕ) (inside : y < row.fields) (mask v : ℕ) where
   abbrev back : Pairs
   back = less_back (pairs_in row words) row.field row.option y (has mask)
 
@@ -269,19 +183,10 @@ pub record Toward (q : Pairs) (x a y : ℕ) (passes : ℕ → Bool) (u b v c : �
   pub back : v ≡ x → c ≡ a → u ≡ y → T (passes b)
 
 toward_out : (q : Pairs) (x a y : ℕ) (passes : ℕ → Bool) (u b v c : ℕ) → T (less_toward q x a y passes u b v c) → Toward q x a y passes u b v c
-toward_out q x a y passes u b v c t =
-    let l = T_left (less_back q x a y passes u b v c) _ t in
-    record {
-      pair = T_left (q u b v c) _ l;
-      forth = λ e f g. cond_out (eqb u x && (eqb b a && eqb v y)) _ (T_right (less_back q x a y passes u b v c) _ t) (these u x b a v y e f g);
-      back = λ e f g. cond_out (eqb v x && (eqb c a && eqb u y)) _ (T_right (q u b v c) _ l) (these v x c a u y e f g);
-    }
+toward_out q x a y passes u b v c t = grind (arith, common_steps)
 
 toward_in : (q : Pairs) (x a y : ℕ) (passes : ℕ → Bool) (u b v c : ℕ) → Toward q x a y passes u b v c → T (less_toward q x a y passes u b v c)
-toward_in q x a y passes u b v c t =
-    and_T _ _
-    (and_T _ _ t.pair (cond_in (eqb v x && (eqb c a && eqb u y)) _ (λ s. let e = are v x c a u y s in t.back e.first e.option e.second)))
-    (cond_in (eqb u x && (eqb b a && eqb v y)) _ (λ s. let e = are u x b a v y s in t.forth e.first e.option e.second))
+toward_in q x a y passes u b v c t = grind (arith, common_steps)
 
 pub record Below (q : Pairs) (x a : ℕ) (l : Part) (k u b v c : ℕ) : Type 0 where
   pub pair : T (q u b v c)
@@ -289,36 +194,15 @@ pub record Below (q : Pairs) (x a : ℕ) (l : Part) (k u b v c : ℕ) : Type 0 w
   pub back : v ≡ x → c ≡ a → u < k → T (l u b)
 
 within : (u x b a v k : ℕ) → u ≡ x → b ≡ a → v < k → T (eqb u x && (eqb b a && ltb v k))
-within u x b a v k e f g = and_T _ _ (T_yes _ (eq-eqb u x e)) (and_T _ _ (T_yes _ (eq-eqb b a f)) (lt→ltb v k g))
+within u x b a v k e f g = grind (arith, common_steps, eq-eqb)
 
 pub below_out : (q : Pairs) (x a : ℕ) (l : Part) (k u b v c : ℕ) → T (less_below q x a l k u b v c) → Below q x a l k u b v c
-below_out q x a l k u b v c t =
-    let r = T_right (q u b v c) _ t in
-    record {
-      pair = T_left (q u b v c) _ t;
-      forth = λ e f g. cond_out (eqb u x && (eqb b a && ltb v k)) _ (T_left (cond (eqb u x && (eqb b a && ltb v k)) (l v c) true) _ r) (within u x b a v k e f g);
-      back = λ e f g. cond_out (eqb v x && (eqb c a && ltb u k)) _ (T_right (cond (eqb u x && (eqb b a && ltb v k)) (l v c) true) _ r) (within v x c a u k e f g);
-    }
+below_out q x a l k u b v c t = grind (arith, common_steps)
 
 pub below_in : (q : Pairs) (x a : ℕ) (l : Part) (k u b v c : ℕ) → Below q x a l k u b v c → T (less_below q x a l k u b v c)
-below_in q x a l k u b v c t =
-    and_T _ _ t.pair
-    (and_T _ _
-    (cond_in (eqb u x && (eqb b a && ltb v k)) _ (λ s.
-    let r = T_right (eqb u x) _ s in
-    t.forth (eqb→eq u x (T_left (eqb u x) _ s)) (eqb→eq b a (T_left (eqb b a) _ r)) (ltb→lt v k (T_right (eqb b a) _ r))))
-    (cond_in (eqb v x && (eqb c a && ltb u k)) _ (λ s.
-    let r = T_right (eqb v x) _ s in
-    t.back (eqb→eq v x (T_left (eqb v x) _ s)) (eqb→eq c a (T_left (eqb c a) _ r)) (ltb→lt u k (T_right (eqb c a) _ r)))))
+below_in q x a l k u b v c t = grind (arith, common_steps)
 
 module _ (q : Pairs) (x a : ℕ) (l : Part) where
-  -- no field yet
-  pub below_none : (u b v c : ℕ) → q u b v c ≡ less_below q x a l 0 u b v c
-  below_none u b v c =
-      same_test (q u b v c) (less_below q x a l 0 u b v c)
-      (λ t. below_in q x a l 0 u b v c (record { pair = t; forth = λ _ _ h. absurd (omega arith); back = λ _ _ h. absurd (omega arith) }))
-      (λ t. (below_out q x a l 0 u b v c t).pair)
-
   -- one field more
   pub below_more : (k : ℕ) (q₁ : Pairs) → ((u b v c : ℕ) → q₁ u b v c ≡ less_below q x a l k u b v c)
       → (u b v c : ℕ) → less_toward q₁ x a k (l k) u b v c ≡ less_below q x a l (k + 1) u b v c
@@ -342,19 +226,7 @@ module _ (q : Pairs) (x a : ℕ) (l : Part) where
 
   -- the row's own field has no pairs with it
   pub below_own : TwoWay q → (u b v c : ℕ) → less_below q x a l x u b v c ≡ less_below q x a l (x + 1) u b v c
-  below_own two u b v c =
-      same_test (less_below q x a l x u b v c) (less_below q x a l (x + 1) u b v c)
-      (λ t.
-      let o = below_out q x a l x u b v c t in
-      let apart = two.apart u b v c o.pair in
-      below_in q x a l (x + 1) u b v c (record {
-        pair = o.pair;
-        forth = λ e f h. ⊎_elim (λ s. absurd (apart (e ∙ sym s))) (λ ne. o.forth e f (omega arith)) (cases_eq v x);
-        back = λ e f h. ⊎_elim (λ s. absurd (apart (s ∙ sym e))) (λ ne. o.back e f (omega arith)) (cases_eq u x);
-      }))
-      (λ t.
-      let o = below_out q x a l (x + 1) u b v c t in
-      below_in q x a l x u b v c (record { pair = o.pair; forth = λ e f h. o.forth e f (omega arith); back = λ e f h. o.back e f (omega arith) }))
+  below_own two u b v c = grind (arith, common_steps, below_in, below_out, same_test)
 
   -- what is left comes in both orders too
   pub below_two_way : (k : ℕ) (q₁ : Pairs) → TwoWay q → ((u b v c : ℕ) → q₁ u b v c ≡ less_below q x a l k u b v c) → TwoWay q₁
@@ -365,36 +237,18 @@ module _ (q : Pairs) (x a : ℕ) (l : Part) where
     apart = λ u b v c t. two.apart u b v c (below_out q x a l k u b v c (subst T (is u b v c) t)).pair;
   }
 
-  -- all fields
-  pub below_all : (n : ℕ) → TwoWay q → ((u b v c : ℕ) → T (q u b v c) → u < n) → (u b v c : ℕ) → less_below q x a l n u b v c ≡ less_pairs q x a l u b v c
-  below_all n two inside u b v c =
-      same_test (less_below q x a l n u b v c) (less_pairs q x a l u b v c)
-      (λ t.
-      let o = below_out q x a l n u b v c t in
-      and_T _ _ o.pair (and_T _ _
-      (cond_in (eqb u x && eqb b a) _ (λ s. o.forth (eqb→eq u x (T_left (eqb u x) _ s)) (eqb→eq b a (T_right (eqb u x) _ s)) (inside v c u b (two.mirrored u b v c o.pair))))
-      (cond_in (eqb v x && eqb c a) _ (λ s. o.back (eqb→eq v x (T_left (eqb v x) _ s)) (eqb→eq c a (T_right (eqb v x) _ s)) (inside u b v c o.pair)))))
-      (λ t.
-      let r = T_right (q u b v c) _ t in
-      below_in q x a l n u b v c (record {
-        pair = T_left (q u b v c) _ t;
-        forth = λ e f h. cond_out (eqb u x && eqb b a) _ (T_left (cond (eqb u x && eqb b a) (l v c) true) _ r) (and_T _ _ (T_yes _ (eq-eqb u x e)) (T_yes _ (eq-eqb b a f)));
-        back = λ e f h. cond_out (eqb v x && eqb c a) _ (T_right (cond (eqb u x && eqb b a) (l v c) true) _ r) (and_T _ _ (T_yes _ (eq-eqb v x e)) (T_yes _ (eq-eqb c a f)));
-      }))
-
 -- nothing of the first k fields was lost, or fewer options are left
-abbrev pub LostBelow : Row → List ℕ → Part → ℕ → List ℕ → Type 0
+abbrev pub LostBelow : Choice → List ℕ → Part → ℕ → List ℕ → Type 0
 LostBelow row first l k now =
     ((y : ℕ) → y < k → AllPass (pairs_in row first) row.field row.option y (l y)) ⊎ (options now < options first)
 
-module _ (row : Row) (first now : List ℕ) (l : Part) (k : ℕ) (two : TwoWay (pairs_in row first)) (left : Leaves row.fields first now (less_below (pairs_in row first) row.field row.option l k)) (lost : LostBelow row first l k now) where
+module _ (row : Choice) (first now : List ℕ) (l : Part) (k : ℕ) (two : TwoWay (pairs_in row first)) (left : Leaves row.fields first now (less_below (pairs_in row first) row.field row.option l k)) (lost : LostBelow row first l k now) where
   -- a field is passed over, and one is looked at
   pub row_own : k ≡ row.field → Leaves row.fields first now (less_below (pairs_in row first) row.field row.option l (k + 1)) × LostBelow row first l (k + 1) now
   row_own e = (
     record {
       pairs = λ u b v c. left.pairs u b v c ∙ ap (λ i. less_below (pairs_in row first) row.field row.option l i u b v c) e
           ∙ below_own (pairs_in row first) row.field row.option l two u b v c ∙ ap (λ i. less_below (pairs_in row first) row.field row.option l (i + 1) u b v c) (sym e);
-      beyond = left.beyond;
       long = left.long;
       fewer = left.fewer;
     },
@@ -417,7 +271,6 @@ module _ (row : Row) (first now : List ℕ) (l : Part) (k : ℕ) (two : TwoWay (
           ∙ ap (λ i. (pairs_in row now u b v c && cond (eqb v row.field && (eqb c row.option && eqb u k)) i true) && cond (eqb u row.field && (eqb b row.option && eqb v k)) (has mask c) true) (is b)
           ∙ ap (λ i. (pairs_in row now u b v c && cond (eqb v row.field && (eqb c row.option && eqb u k)) (l k b) true) && cond (eqb u row.field && (eqb b row.option && eqb v k)) i true) (is c)
           ∙ below_more (pairs_in row first) row.field row.option l k (pairs_in row now) left.pairs u b v c;
-      beyond = more.beyond ∙ left.beyond;
       long = more.long ∙ left.long;
       fewer = omega (arith, more.fewer, left.fewer);
     },
@@ -437,20 +290,7 @@ module _ (row : Row) (first now : List ℕ) (l : Part) (k : ℕ) (two : TwoWay (
         fewer,
   )
 
--- a row is in the table however the words change
-pub still_in : (row : Row) (first now : List ℕ) → length now ≡ length first → InTable row first → InTable row now
-still_in row first now e at = record { few = at.few; field = at.field; option = at.option; room = omega (arith, e, at.room) }
-
 -- the end of a row
-pub row_end : (row : Row) (first now : List ℕ) (l : Part) → TwoWay (pairs_in row first) → Leaves row.fields first now (less_below (pairs_in row first) row.field row.option l row.fields)
+pub row_end : (row : Choice) (first now : List ℕ) (l : Part) → TwoWay (pairs_in row first) → Leaves row.fields first now (less_below (pairs_in row first) row.field row.option l row.fields)
     → Leaves row.fields first now (less_pairs (pairs_in row first) row.field row.option l)
-row_end row first now l two left = record {
-  pairs = λ u b v c. left.pairs u b v c ∙ below_all (pairs_in row first) row.field row.option l row.fields two (λ u b v c t. (pairs_range row.fields first u b v c t).first) u b v c;
-  beyond = left.beyond;
-  long = left.long;
-  fewer = left.fewer;
-}
-
--- at first the words are as they were
-pub row_start : (row : Row) (first : List ℕ) (l : Part) → Leaves row.fields first first (less_below (pairs_in row first) row.field row.option l 0)
-row_start row first l = record { pairs = below_none (pairs_in row first) row.field row.option l; beyond = refl; long = refl; fewer = omega arith }
+row_end row first now l two left = grind (arith, common_steps)

@@ -1,14 +1,15 @@
 -- What a tightening rests on: parts under the pair rules, what a probe may take away, and when nothing is left to do.
-use Rattle.std.proofs.Common.{◌≡◌, ℕ, ◌<◌, ◌≤◌, true, cond, T, eqb, ◌≢◌, List, length, sym, refl, ap, ◌∙◌, subst, ⊎_elim, arith, eqb→eq}
+use Rattle.std.proofs.Common.{◌≡◌, ℕ, ◌<◌, ◌≤◌, cond, T, eqb, ◌≢◌, List, length, sym, refl, ap, ◌∙◌, subst, ⊎_elim, arith, eqb→eq}
+use Rattle.std.proofs.lemmas.Grind.{common_steps}
 use lib.Dec.{eqb_refl}
-use Rattle.std.proofs.lemmas.Bool.{cases_lt, cases_eq, cases_order, eq-eqb, ne_eqb}
+use Rattle.std.proofs.lemmas.Bool.{cases_lt, cases_eq, eq-eqb, ne_eqb}
 use Rattle.network.specs.Network.{Rule, Part, part, Within, rule_at, PartnerLeft, PartnerRight, ArcConsistent, InLargest, Largest}
 use Rattle.propagation.specs.Opening.{IsWipedOut}
 use Rattle.books.specs.Pairs.{Pairs, pair_rule, pair_rules, triangle, pair_at, place}
 use Rattle.tightening.specs.Underway.{Covers, Consistent, Probed}
-use Rattle.tightening.specs.Tightening.{Stands, narrowed, row, InFullLargest, StronglyDual, TightOption, TightPair, Tightest}
+use Rattle.tightening.specs.Tightening.{Stands, narrowed, row, StronglyDual, TightOption, TightPair, Tightest}
 use Rattle.network.proofs.Truth.{yes_T, T_yes, and_T, T_left, T_right}
-use Rattle.tightening.proofs.Sets.{field_within}
+use Rattle.propagation.proofs.Strikes.{is_field}
 use Rattle.books.proofs.Pairing.{rule_of, rule_is, rules_length, ends_order, ends_below, place_below, place_ends}
 
 -- a partner of option a of field x in field y: a kept option, paired with a in both orders
@@ -43,8 +44,7 @@ module _ (n : ℕ) (q : Pairs) (p : Part) where
       record { option = m.0; forth = T_right (q y m.0 x a) _ m.1.0; back = T_left (q y m.0 x a) _ m.1.0; kept = m.1.1 }
 
   pub arc_supported : ArcConsistent (pair_rules n q) p → Supported n q p
-  arc_supported arc x a y h l ne t =
-      ⊎_elim (λ e. absurd (ne e)) (λ o. ⊎_elim (λ u. up arc x a y u l t) (λ d. down arc x a y d h t) o) (cases_order x y)
+  arc_supported arc x a y h l ne t = grind (arith, common_steps, down, up)
 
   supported_left : Supported n q p → (x y a : ℕ) → x < y → y < n → T (p x a) → PartnerRight p (pair_rule q x y) a
   supported_left s x y a o b t =
@@ -85,15 +85,7 @@ arc_grows n q q' p w arc = supported_arc n q' p (supported_grows n q q' p w (arc
 
 pub largest_grows : (n : ℕ) (q q' : Pairs) (p p' : Part) → PairsWithin n q q' → Within p p' → (x a : ℕ)
     → InLargest (pair_rules n q) p x a → InLargest (pair_rules n q') p' x a
-largest_grows n q q' p p' w v x a i =
-    (i.0, (λ y b t. v y b (i.1.0 y b t), (arc_grows n q q' i.0 w i.1.1.0, i.1.1.1)))
-
-pub full_grows : (n : ℕ) (q q' : Pairs) (p p' : Part) → PairsWithin n q q' → Within p p' → (x a : ℕ)
-    → InFullLargest n (pair_rules n q) p x a → InFullLargest n (pair_rules n q') p' x a
-full_grows n q q' p p' w v x a i = record {
-  full = λ z l. let c = i.full z l in (c.0, largest_grows n q q' p p' w v z c.0 c.1);
-  member = largest_grows n q q' p p' w v x a i.member;
-}
+largest_grows n q q' p p' w v x a i = grind (arith, common_steps, arc_grows)
 
 -- what a largest part has is in the whole
 pub largest_within : (rules : List Rule) (p : Part) (x a : ℕ) → InLargest rules p x a → T (p x a)
@@ -108,16 +100,10 @@ pub narrowed_within : (p : Part) (x a : ℕ) → Within (narrowed p x a) p
 narrowed_within p x a y b t = T_left (p y b) _ t
 
 pub narrowed_to : (p : Part) (x a b : ℕ) → T (narrowed p x a x b) → b ≡ a
-narrowed_to p x a b t =
-    sym (eqb→eq a b (subst (λ v. T (cond v (eqb a b) true)) (yes_T (eqb x x) (eqb_refl x)) (T_right (p x b) _ t)))
+narrowed_to p x a b t = grind (arith, common_steps)
 
 pub narrowed_in : (p : Part) (x a y b : ℕ) → T (p y b) → (y ≡ x → b ≡ a) → T (narrowed p x a y b)
-narrowed_in p x a y b t f =
-    and_T _ _ t
-    (⊎_elim
-    (λ e. subst (λ v. T (cond v (eqb a b) true)) (sym (eq-eqb x y e)) (T_yes (eqb a b) (eq-eqb a b (sym (f (sym e))))))
-    (λ ne. subst (λ v. T (cond v (eqb a b) true)) (sym (ne_eqb x y ne)) tt)
-    (cases_eq x y))
+narrowed_in p x a y b t f = grind (arith, common_steps, eq-eqb, ne_eqb)
 
 pub narrowed_grows : (p p' : Part) (x a : ℕ) → Within p p' → Within (narrowed p x a) (narrowed p' x a)
 narrowed_grows p p' x a w y b t = and_T _ _ (w y b (T_left (p y b) _ t)) (T_right (p y b) _ t)
@@ -137,7 +123,7 @@ module _ (rules : List Rule) (sets : List ℕ) where
       → (c : ℕ) × InLargest (pair_rules (length sets) q) (narrowed p x a) z c
   kept_full p q sd x a t z l =
       let n = length sets in
-      let h : x < n = field_within sets x a (sd.options x a t) in
+      let h : x < n = is_field sets x a (sd.options x a t) in
       let by_pair : (y : ℕ) → y < n → x ≢ y → (c : ℕ) × InLargest (pair_rules n q) (narrowed p x a) z c =
       λ y k ne. let m = arc_supported n q p sd.arc x a y h k ne t in (sd.dual x a y m.option m.forth).full z l in
       ⊎_elim
@@ -227,7 +213,7 @@ module _ (rules : List Rule) (sets : List ℕ) where
     pairs = st.pairs;
     both_orders = λ x a y b t.
         let s = st.pairs x a y b t in
-        (probed_pair (length sets) q p x a y b (field_within sets x a s.0.first) (field_within sets y b s.0.second) s.0.apart ((done x a s.1.0).holds y b t)).1;
+        (probed_pair (length sets) q p x a y b (is_field sets x a s.0.first) (is_field sets y b s.0.second) s.0.apart ((done x a s.1.0).holds y b t)).1;
     arc = supported_arc (length sets) q p (probed_supported p q st done);
     dual = λ x a y b t. let d = done x a (st.pairs x a y b t).1.0 in record { full = d.full; member = d.holds y b t };
   }
@@ -266,15 +252,6 @@ module _ (rules : List Rule) (sets : List ℕ) where
   pub covers_empty : (p : Part) (q : Pairs) (x : ℕ) → Covers rules sets p q → ((a : ℕ) → T (p x a) → ⊥) → (a : ℕ) → TightOption rules sets x a → ⊥
   covers_empty p q x cov none a o = none a (cov.options x a o)
 
-  -- where one field is empty in the largest part, all are
-  pub tight_together : (x : ℕ) → x < length sets → ((a : ℕ) → TightOption rules sets x a → ⊥) → (y b : ℕ) → TightOption rules sets y b → ⊥
-  tight_together x h none y b (p, (q, (sd, t))) =
-      ⊎_elim
-      (λ e. none b (subst (λ z. TightOption rules sets z b) e (p, (q, (sd, t)))))
-      (λ ne. let m = arc_supported (length sets) q p sd.arc y b x (field_within sets y b (sd.options y b t)) h ne t in none m.option (p, (q, (sd, m.kept))))
-      (cases_eq y x)
-
-  -- AFTER A TIGHTENING
   pub tightest_covers : (p : Part) (q : Pairs) → Tightest rules sets p q → Covers rules sets p q
   tightest_covers p q h = record { options = h.only_options; pairs = h.only_pairs }
 
@@ -313,7 +290,7 @@ module _ (rules : List Rule) (sets : List ℕ) where
   tightest_rows p q h x a t =
       let n = length sets in
       let sd = tightest_dual p q h in
-      let k : x < n = field_within sets x a (sd.options x a t) in
+      let k : x < n = is_field sets x a (sd.options x a t) in
       let full = kept_full p q sd x a t in
       let self : InLargest (pair_rules n q) (narrowed p x a) x a =
       let c = full x k in
@@ -325,7 +302,7 @@ module _ (rules : List Rule) (sets : List ℕ) where
       (λ e. let is = narrowed_to p x a b (subst (λ z. T (narrowed p x a z b)) (sym e) there) in
       subst (λ z. T (row q x a z b)) e (T_yes (row q x a x b) (row_same q x a b ∙ eq-eqb a b (sym is))))
       (λ ne. subst T (sym (row_other q x a y b ne))
-      (probed_pair n q p x a y b k (field_within sets y b (sd.options y b (narrowed_within p x a y b there))) ne i).0)
+      (probed_pair n q p x a y b k (is_field sets y b (sd.options y b (narrowed_within p x a y b there))) ne i).0)
       (cases_eq x y) in (
         record {
           all = λ y b s.

@@ -1,7 +1,8 @@
 -- Trying out a probe's sets: what it starts from, and what its outcome tells of the probe.
-use Rattle.std.proofs.Common.{◌≡◌, ℕ, zero, suc, ◌*◌, ◌^◌, ◌<◌, ◌≤◌, Bool, true, false, cond, ◌||◌, T, eqb, ◌≢◌, List, [], ◌∷◌, length, get_or, is_err, Ok, Err, Result, sym, refl, ap, ◌∙◌, subst, ⊎_elim, arith, eqb→eq, MatchResult}
+use Rattle.std.proofs.Common.{◌≡◌, ℕ, zero, suc, ◌*◌, ◌^◌, ◌<◌, ◌≤◌, Bool, true, false, cond, not, ◌||◌, T, eqb, ◌≢◌, List, [], ◌∷◌, length, get_or, Ok, sym, refl, ap, ◌∙◌, subst, ⊎_elim, arith}
+use Rattle.std.proofs.lemmas.Grind.{common_steps}
 use native.Mathlib.Nat.{min_comm, min-eq_left}
-use Rattle.std.proofs.lemmas.Bool.{cases_eq, cases_lt, eq-eqb, ne_eqb}
+use Rattle.std.proofs.lemmas.Bool.{cases_eq, cases_lt, eq-eqb, ne_eqb, eqb-true, eqb-false}
 use Rattle.network.specs.Network.{has, Rule, Part, part, words, Within, InLargest, Largest}
 use Rattle.network.specs.declared.options.OptionSet.{OptionSet}
 use Rattle.network.proofs.Words.{length_words}
@@ -10,21 +11,19 @@ use lib.Count.{ones-le}
 use Rattle.network.proofs.Bits.{none_of_zero, has_pow}
 use Rattle.books.specs.Pairs.{Pairs, pairs_of, pair_rules, pair_book}
 use Rattle.propagation.specs.Opening.{Accepted, IsWipedOut}
-use Rattle.propagation.specs.Progress.{Filled, WipedFrom}
-use Rattle.propagation.specs.declared.record.WipedOut.{WipedOut}
+use Rattle.propagation.specs.Progress.{Filled, SettledOn}
 use Rattle.propagation.specs.Refusals.{any, empty}
 use Rattle.propagation.specs.Strikes.{options, Struck, without}
 use Rattle.propagation.specs.Undo.{Fit}
 use Rattle.propagation.specs.declared.record.Strike.{Strike}
-use Rattle.propagation.proofs.Strikes.{shrinks}
+use Rattle.propagation.proofs.Strikes.{shrinks, is_field, struck_gone}
 use Rattle.tightening.specs.Tightening.{narrowed, row}
 use Rattle.tightening.specs.Underway.{Consistent}
 use Rattle.tightening.specs.Rows.{InTable, TwoWay, pairs_in, word_to, row_word}
-use Rattle.tightening.specs.Outcomes.{LostOne}
-use Rattle.tightening.specs.declared.rows.Row.{Row}
+use Rattle.tightening.specs.Outcomes.{LostOne, Tried}
+use Rattle.tightening.specs.declared.rows.Choice.{Choice}
 use Rattle.tightening.proofs.Theory.{largest_within, narrowed_within, narrowed_to, narrowed_in, probed_pair}
 use Rattle.tightening.proofs.PairWords.{pairs_at, pairs_range, pair_accepted}
-use Rattle.tightening.proofs.Sets.{field_within, not_there}
 
 -- no set is empty, or one is
 pub none_empty : (sets : List ℕ) → any empty sets ≡ false → Filled sets
@@ -50,9 +49,7 @@ one_empty (w ∷ ws) h =
 
 -- an empty set is empty in the largest part
 pub wiped_empty : (rules : List Rule) (sets : List ℕ) → any empty sets ≡ true → IsWipedOut rules (length sets) (part sets)
-wiped_empty rules sets h =
-    let m = one_empty sets h in
-    (m.0, (m.1.0, λ a i. T_no (has 0 a) (none_of_zero a) (subst (λ w. T (has w a)) m.1.1 (largest_within rules (part sets) m.0 a i))))
+wiped_empty rules sets h = grind (arith, common_steps, largest_within, none_of_zero, one_empty)
 
 -- up to 16 fields the book has just their rules
 pub book_rules : (n : ℕ) (words : List ℕ) → n ≤ 16 → pair_book n words ≡ pair_rules n (pairs_of n words)
@@ -67,7 +64,7 @@ few_options (w ∷ ws) fit = omega (arith, few_options ws (λ x. fit (suc x)), o
 pub struck_one : (rules : List Rule) (found : List Strike) (sets last : List ℕ) → Struck rules [] sets found last → 0 < length found → LostOne sets last
 struck_one rules [] sets last h l = absurd (omega arith)
 struck_one rules (s ∷ rest) sets last h l =
-    (s.field, (s.option, (h.0, λ t. not_there sets s.field s.option h.0 (shrinks rules [] rest (without sets s.field s.option) last h.1.1 s.field s.option t))))
+    (s.field, (s.option, (h.0, λ t. struck_gone sets s.field s.option h.0 (shrinks rules [] rest (without sets s.field s.option) last h.1.1 s.field s.option t))))
 
 -- no strike changes nothing
 pub struck_none : (rules : List Rule) (found : List Strike) (sets last : List ℕ) → Struck rules [] sets found last → length found ≡ 0 → last ≡ sets
@@ -75,7 +72,7 @@ struck_none rules [] sets last h e = h
 struck_none rules (s ∷ rest) sets last h e = absurd (omega (arith, e))
 
 -- THE SETS OF A ROW
-module _ (r : Row) (words sets : List ℕ) (at : InTable r words) (long : length sets ≡ r.fields) (two : TwoWay (pairs_in r words)) (is : (y : ℕ) → y < r.fields → get_or sets y 0 ≡ row_word r words y) where
+module _ (r : Choice) (words sets : List ℕ) (at : InTable r words) (long : length sets ≡ r.fields) (two : TwoWay (pairs_in r words)) (is : (y : ℕ) → y < r.fields → get_or sets y 0 ≡ row_word r words y) where
   abbrev n : ℕ
   n = r.fields
 
@@ -100,7 +97,7 @@ module _ (r : Row) (words sets : List ℕ) (at : InTable r words) (long : length
       ∙ sym (pairs_at n words x a y b at.field at.option (omega (arith, l, at.few)))
       ∙ sym (ap (λ t. cond t (eqb a b) (q x a y b)) (ne_eqb x y ne)))
       (λ (g : n ≤ y).
-      no_T (part sets y b) (λ t. absurd (omega (arith, field_within sets y b t, long, g)))
+      no_T (part sets y b) (λ t. absurd (omega (arith, is_field sets y b t, long, g)))
       ∙ sym (no_T (q x a y b) (λ t. absurd (omega (arith, (pairs_range n words y b x a (two.mirrored x a y b t)).first, g))))
       ∙ sym (ap (λ t. cond t (eqb a b) (q x a y b)) (ne_eqb x y ne)))
       (cases_lt y n))
@@ -119,18 +116,10 @@ module _ (rules : List Rule) (first : List ℕ) (p : Part) (q : Pairs) (standing
   own = pair_rules fields q
 
   row_in : Within (row q x a) (narrowed p x a)
-  row_in y b t =
-      ⊎_elim
-      (λ (e : x ≡ y).
-      let same : a ≡ b = eqb→eq a b (subst T (ap (λ i. cond i (eqb a b) (q x a y b)) (eq-eqb x y e)) t) in
-      narrowed_in p x a y b (subst (λ z. T (p z b)) e (subst (λ c. T (p x c)) same kept)) (λ _. sym same))
-      (λ (ne : x ≢ y).
-      let pair = subst T (ap (λ i. cond i (eqb a b) (q x a y b)) (ne_eqb x y ne)) t in
-      narrowed_in p x a y b (standing.pairs x a y b pair).1.1 (λ e. absurd (ne (sym e))))
-      (cases_eq x y)
+  row_in y b t = grind (arith, common_steps, eq-eqb, narrowed_in, ne_eqb)
 
   field_of : (y b : ℕ) → T (p y b) → y < fields
-  field_of y b t = field_within first y b (standing.options y b t)
+  field_of y b t = is_field first y b (standing.options y b t)
 
   in_row : (y b : ℕ) → InLargest own (narrowed p x a) y b → T (row q x a y b)
   in_row y b i =
@@ -162,21 +151,18 @@ module _ (rules : List Rule) (first : List ℕ) (p : Part) (q : Pairs) (standing
   row_wiped sets is w = (w.0, (w.1.0, λ b i. w.1.1 b (back sets is w.0 b i)))
 
 -- THE BOOK OF A PROBE
-module _ (sets pairs pairs' : List OptionSet) (f : ℕ) (is : f ≡ length sets) (same : pairs' ≡ pairs) (few : length sets ≤ 16) where
-  pub book_is : pair_book f (words pairs') ≡ pair_rules (length sets) (pairs_of (length sets) (words pairs))
-  book_is = ap (λ k. pair_book k (words pairs')) is ∙ ap (λ ps. pair_book (length sets) (words ps)) same ∙ book_rules (length sets) (words pairs) few
+module _ (sets pairs pairs' : List OptionSet) (n f : ℕ) (long : length sets ≡ n) (is : f ≡ length sets) (same : pairs' ≡ pairs) (few : n ≤ 16) where
+  pub book_is : pair_book f (words pairs') ≡ pair_rules n (pairs_of n (words pairs))
+  book_is = grind (arith, common_steps, book_rules)
 
-  pub probe_accepted : 0 < length sets → any empty (words sets) ≡ false → Fit (words sets) → Accepted (pair_book f (words pairs')) (words sets)
+  pub probe_accepted : 0 < n → any empty (words sets) ≡ false → Fit (words sets) → Accepted (pair_book f (words pairs')) (words sets)
   probe_accepted some full fit =
-      let long = length_words sets in
-      subst (λ rs. Accepted rs (words sets)) (ap (λ n. pair_rules n (pairs_of (length sets) (words pairs))) long ∙ sym book_is)
-      (pair_accepted (words sets) (pairs_of (length sets) (words pairs)) (omega (arith, some, long)) (omega (arith, few, long)) fit (none_empty (words sets) full))
+      let all = length_words sets ∙ long in
+      subst (λ rs. Accepted rs (words sets)) (ap (λ k. pair_rules k (pairs_of k (words pairs))) all ∙ sym book_is)
+      (pair_accepted (words sets) (pairs_of (length (words sets)) (words pairs)) (omega (arith, some, all)) (omega (arith, few, all)) fit (none_empty (words sets) full))
 
--- a propagation that came out well, and one that did not
-pub settled_well : (P : Type 0) (Q : WipedOut → Type 0) (r : Result (Unit {0}) WipedOut) → is_err r ≡ false → MatchResult r (λ _. P) Q → P
-settled_well P Q (Ok x) e h = h
-settled_well P Q (Err why) e h = absurd (T_no true e tt)
-
-pub settled_badly : (rules : List Rule) (sets : List ℕ) (P : Type 0) (r : Result (Unit {0}) WipedOut) → is_err r ≡ true → MatchResult r (λ _. P) (λ w. WipedFrom rules sets w) → IsWipedOut rules (length sets) (part sets)
-settled_badly rules sets P (Ok x) e h = absurd (T_yes false e)
-settled_badly rules sets P (Err w) e h = (w.field, (h.field, h.emptied))
+-- a trial that came out well, told by whether there is no strike
+pub tried_well : (rules : List Rule) (first last : List ℕ) (found : List Strike) (none : Bool) → SettledOn rules first last → Struck rules [] first found last → none ≡ eqb (length found) 0 → Tried rules first last (Ok (not none))
+tried_well rules first last found true s st e = (s, struck_none rules found first last st (eqb-true (length found) 0 (sym e)))
+tried_well rules first last found false s st e =
+    let ne = eqb-false (length found) 0 (sym e) in (s, struck_one rules found first last st (omega arith))

@@ -1,16 +1,15 @@
 -- Probes that are put, one by one.
-use Rattle.std.proofs.Common.{◌≡◌, ℕ, ◌+◌, ◌-◌, ◌*◌, ◌^◌, ◌<◌, Bool, true, false, cond, not, ◌&&◌, ◌||◌, T, eqb, ltb, ◌⊎◌, sym, refl, ap, ◌∙◌, subst, inl, inr, ⊎_elim, arith, eqb→eq, ltb→lt, lt→ltb}
-use Rattle.std.proofs.lemmas.Bool.{cases_eq, eq-eqb, ne_eqb, lt-ltb, eqb-true}
+use Rattle.std.proofs.Common.{◌≡◌, ℕ, ◌-◌, ◌^◌, ◌<◌, Bool, true, false, cond, ◌&&◌, ◌||◌, T, eqb, ltb, ◌⊎◌, sym, refl, ap, ◌∙◌, ⊎_elim, arith}
+use Rattle.std.proofs.lemmas.Grind.{common_steps}
+use Rattle.std.proofs.lemmas.Bool.{cases_eq, eq-eqb, lt-ltb, eqb-true}
+use Rattle.std.proofs.Math.Dec.{not_T}
 use Rattle.network.specs.Network.{has}
-use Rattle.network.proofs.Truth.{yes_T, T_yes, T_no, and_T, T_left, T_right}
+use Rattle.network.proofs.Truth.{T_no, T_right}
 use Rattle.network.proofs.Bits.{has_less}
 use Rattle.agenda.specs.Waiting.{Waiting, Same, without, Nothing}
 use Rattle.agenda.specs.Jobs.{probe_number, probe_fits, put_job}
 use Rattle.agenda.specs.declared.job.Probe.{Probe}
 use Rattle.tightening.specs.Probes.{probes_of, PutOn}
-
-pub put_none : (w : Waiting) → PutOn w w
-put_none w = record { still = λ k h. h; only = λ o. o }
 
 pub put_then : (w w₁ w₂ : Waiting) → PutOn w w₁ → PutOn w₁ w₂ → PutOn w w₂
 put_then w w₁ w₂ p q = record { still = λ k h. q.still k (p.still k h); only = λ o. q.only (p.only o) }
@@ -41,34 +40,19 @@ module _ (w w' : Waiting) (probe : Probe) (field : probe.field < 16) (option : p
       or_other false b f h = h
 
   pub it_waits : T (probes_of w' probe.field probe.option)
-  it_waits = and_T _ _ (lt→ltb probe.option 32 option) (T_yes _ (now (probe_number probe) ∙ ap (λ t. t || w (probe_number probe)) (eq-eqb (probe_number probe) (probe_number probe) refl)))
+  it_waits = grind (arith, common_steps, eq-eqb, now)
 
 pub still_waits : (w w' : Waiting) → PutOn w w' → (x a : ℕ) → T (probes_of w x a) → T (probes_of w' x a)
-still_waits w w' p x a t = and_T _ _ (T_left (ltb a 32) _ t) (T_yes _ (p.still _ (yes_T _ (T_right (ltb a 32) _ t))))
+still_waits w w' p x a t = grind (arith, common_steps)
 
 -- the options of a set that are put, but for those that are left
 pub one_less : (w w' : Waiting) (x set rest d : ℕ) → PutOn w w' → T (has rest d) → T (probes_of w' x d)
     → ((a : ℕ) → T (has set a) → T (has rest a) ⊎ T (probes_of w x a)) → (a : ℕ) → T (has set a) → T (has (rest - 2 ^ d) a) ⊎ T (probes_of w' x a)
-one_less w w' x set rest d p h here all a t =
-    ⊎_elim
-    (λ (r : T (has rest a)). ⊎_elim
-    (λ e. inr (subst (λ b. T (probes_of w' x b)) (sym e) here))
-    (λ ne. inl (subst T (sym (has_less rest d a h)) (and_T _ _ r (not_T (eqb a d) (λ e. ne (eqb→eq a d e))))))
-    (cases_eq a d))
-    (λ s. inr (still_waits w w' p x a s))
-    (all a t)
-  where
-    not_T : (b : Bool) → (T b → ⊥) → T (not b)
-    not_T true f = f tt
-    not_T false f = tt
+one_less w w' x set rest d p h here all a t = grind (arith, common_steps, has_less, not_T, still_waits)
 
 -- once a probe is taken, all others still wait
 pub others_wait : (w w' : Waiting) (x a : ℕ) → a < 32 → Same (without w (probe_number (record { field = x; option = a }))) w' → (y b : ℕ) → T (probes_of w y b) → (y ≡ x → b ≡ a → ⊥) → T (probes_of w' y b)
-others_wait w w' x a l taken y b t ne =
-    let m : b < 32 = ltb→lt b 32 (T_left (ltb b 32) _ t) in
-    let apart : y * 32 + b ≡ x * 32 + a → ⊥ = λ e. let s : y ≡ x = omega arith in ne s (omega arith) in
-    and_T _ _ (T_left (ltb b 32) _ t)
-    (T_yes _ (taken (y * 32 + b) ∙ ap (λ i. not i && w (y * 32 + b)) (ne_eqb (y * 32 + b) (x * 32 + a) apart) ∙ yes_T _ (T_right (ltb b 32) _ t)))
+others_wait w w' x a l taken y b t ne = grind (arith, common_steps)
 
 pub nothing_waits : (w : Waiting) → Nothing w → (x a : ℕ) → T (probes_of w x a) → ⊥
 nothing_waits w none x a t = T_no _ (none _) (T_right (ltb a 32) _ t)

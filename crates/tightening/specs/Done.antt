@@ -40,6 +40,13 @@ pub record Untouched (sets pairs sets' pairs' : List ℕ) : Type 0 where
   pub same_sets : sets' ≡ sets
   pub same_pairs : pairs' ≡ pairs
 
+-- what the tightening of a copy of the sets leaves in the copy and in the pair words of their fields, once it is not refused beforehand
+abbrev pub TightensCopy : List Rule → (sets pairs : List ℕ) → Result (Unit {0}) Untightened → (sets' pairs' : List ℕ) → Type 0
+TightensCopy rules sets pairs (Ok _) sets' pairs' = (length sets' ≡ length sets) × (Filled sets' × Tightest rules sets (part sets') (pairs_of (length sets) pairs'))
+TightensCopy rules sets pairs (Err (Refused why)) sets' pairs' = (why ≡ NoTightPart) × (TightWipedOut rules sets × ((i : ℕ) → slice_index pairs' i ≡ 0))
+TightensCopy rules sets pairs (Err (Memory _)) sets' pairs' = pairs' ≡ pairs
+
+-- what a tightening answers, and what its buffers then hold
 abbrev pub Tightens : List Rule → (sets pairs : List ℕ) → Result (Unit {0}) Untightened → (sets' pairs' : List ℕ) → Type 0
 Tightens rules sets pairs (Ok _) sets' pairs' = (tighten_refusal rules sets pairs ≡ None) × Tightened rules sets pairs sets' pairs'
 Tightens rules sets pairs (Err (Refused why)) sets' pairs' =

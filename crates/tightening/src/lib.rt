@@ -17,8 +17,6 @@ mod turn;
 
 // Over the largest strongly dual-consistent part, narrowing a field to a kept option and settling leaves just what the
 // option is paired with.
-pub fn rows_are_exact() -> u8
+pub fn rows_are_exact()
     ensures { RowsAreExact }
-{
-    0
-}
+{}

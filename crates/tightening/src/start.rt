@@ -1,13 +1,12 @@
 // The pairs that stand at the start.
 
-ghost use Rattle.std.specs.Prelude.{◌≡◌, ℕ, ◌+◌, ◌<◌, ◌≤◌, ◌&&◌, [], length, take};
-ghost use Rattle.network.specs.Network.{words, field_limit, has};
+ghost use Rattle.std.specs.Prelude.{◌≡◌, ℕ, ◌+◌, ◌<◌, ◌&&◌, length, take, slice_index};
+ghost use Rattle.network.specs.Network.{words, has};
 ghost use Rattle.books.specs.Reads.{allowed};
 ghost use Rattle.propagation.specs.Opening.{Accepted};
-ghost use Rattle.propagation.specs.Undo.{Fit};
-ghost use Rattle.tightening.specs.Start.{first_word_at, Standing, Room, StayBeyond};
+ghost use Rattle.tightening.specs.Start.{first_word_at, Standing, Room};
 
-use super::rows::{Row, keep_toward};
+use super::rows::{Choice, keep_toward};
 use books::book::Book;
 use network::options::{OPTIONS, OptionSet};
 use network::rules::FIELDS;
@@ -30,17 +29,13 @@ fn first_word(sets: &[OptionSet], place: usize) -> OptionSet
     }
 }
 
-// Writes the pairs of all options of two different fields.
+// Writes each pair word as it stands before any rule is looked at.
 fn start_pairs(sets: &[OptionSet], pairs: &mut [OptionSet])
-    requires few { length sets.now ≤ field_limit }
-    requires fit { Fit (words sets.now) }
-    requires room { Room (length sets.now) (words pairs.old) }
-    ensures pairs { Standing [] (words sets.now) (words pairs.new) }
-    ensures rest { StayBeyond (length sets.now) (words pairs.old) (words pairs.new) }
+    ensures { (i : ℕ) → i < length pairs.old → slice_index (words pairs.new) i ≡ first_word_at (words sets.now) i }
 {
-    let words_a_field = OPTIONS as usize * FIELDS as usize;
-    for place in 0..sets.len() * words_a_field {
-        pairs[place] = first_word(sets, place);
+    // A word is told by its place: so the words are counted.
+    for (place, pair) in pairs.iter_mut().enumerate() {
+        *pair = first_word(sets, place);
     }
 }
 
@@ -64,31 +59,32 @@ fn forbid_by_rule<B: Book>(book: &B, rule: u8, sets: &[OptionSet], pairs: &mut [
     requires rule { rule < length (B.Book.meaning book.now) }
     requires room { Room (length sets.now) (words pairs.old) }
     requires pairs { Standing (take rule (B.Book.meaning book.now)) (words sets.now) (words pairs.old) }
-    ensures pairs { Standing (take (rule + 1) (B.Book.meaning book.now)) (words sets.now) (words pairs.new) }
-    ensures rest { StayBeyond (length sets.now) (words pairs.old) (words pairs.new) }
+    ensures { Standing (take (rule + 1) (B.Book.meaning book.now)) (words sets.now) (words pairs.new) }
 {
     let ends = book.ends(rule);
     let fields = sets.len() as u8;
     let mut waiting = sets[ends.left as usize];
     while let Some(option) = waiting.take_lowest() {
-        let row = Row {
+        let own = Choice {
             fields,
             field: ends.left,
             option,
         };
         let keep = allowed_with(book, rule, option, sets[ends.right as usize]);
-        keep_toward(pairs, row, ends.right, keep);
+        keep_toward(pairs, own, ends.right, keep);
     }
 }
 
-// Writes the pairs that stand: of two options of different fields, if no rule forbids them.
+// Writes the pairs that stand: of two options of different fields, if no rule forbids them. No word is left as it was.
+// That the sets are accepted over the book and the words enough is asked of three inner functions: a struct for it would
+// hold a book, sets and words only for the start.
 pub(crate) fn stand_at_start<B: Book>(book: &B, sets: &[OptionSet], pairs: &mut [OptionSet])
     requires accepted { Accepted (B.Book.meaning book.now) (words sets.now) }
     requires room { Room (length sets.now) (words pairs.old) }
-    ensures pairs { Standing (B.Book.meaning book.now) (words sets.now) (words pairs.new) }
-    ensures rest { StayBeyond (length sets.now) (words pairs.old) (words pairs.new) }
+    ensures { Standing (B.Book.meaning book.now) (words sets.now) (words pairs.new) }
 {
     start_pairs(sets, pairs);
+    // A book is asked for its rules by their numbers.
     for rule in 0..book.count() {
         forbid_by_rule(book, rule, sets, pairs);
     }

@@ -1,35 +1,31 @@
 // Tightening.
 
-ghost use Rattle.std.specs.Prelude.{◌≡◌, ◌<◌, ◌≤◌, true, false, length, vec_capacity, OnOk};
-ghost use Rattle.books.specs.Pairs.{pairs_of};
-ghost use Rattle.propagation.specs.Progress.{Filled};
-ghost use Rattle.network.specs.Network.{part, words};
+ghost use Rattle.std.specs.Prelude.{◌≡◌, ◌<◌, length, OnOk};
+ghost use Rattle.network.specs.Network.{words};
 ghost use Rattle.agenda.specs.Waiting.{Nothing};
 ghost use Rattle.propagation.specs.Refusals.{answer};
 ghost use Rattle.propagation.specs.Opening.{Accepted};
-ghost use Rattle.tightening.specs.Start.{Room, StayBeyond};
-ghost use Rattle.tightening.specs.Tightening.{Tightest, TightWipedOut};
-ghost use Rattle.tightening.specs.Done.{tighten_refusal, Tightens};
+ghost use Rattle.tightening.specs.Start.{Room};
+ghost use Rattle.tightening.specs.Done.{tighten_refusal, TightensCopy, Tightens};
 ghost use Rattle.tightening.specs.declared.tighten.Untightened.TheVariants as untightened;
 
-use super::probe_all::probe_all;
 use super::probes::put_probes;
-use super::rows::empty_words;
 use super::start::stand_at_start;
+use super::turn::Probing;
 use agenda::agenda::Agenda;
 use books::book::Book;
 use faults::EngineFault;
 use network::options::{OPTIONS, OptionSet};
 use network::rules::FIELDS;
 use propagation::opening::check_opening;
-use propagation::record::Strike;
+use propagation::record::STRIKES;
 use std::alloc::{AllocError, Global};
 
 // How many pair words the options of a field have.
 const WORDS_A_FIELD: usize = OPTIONS as usize * FIELDS as usize;
 
 // Why nothing was tightened.
-#[derive(Clone, Copy)]
+#[derive(Clone, Copy, PartialEq, Eq, Debug)]
 pub enum Untightened {
     // it was refused
     Refused(EngineFault),
@@ -37,6 +33,7 @@ pub enum Untightened {
     Memory(AllocError),
 }
 
+// Both conversions are written by hand, since a clause names the error that `?` makes of a fault.
 impl From<EngineFault> for Untightened {
     ghost from_gives = { λ fault r. r ≡ untightened.Refused fault };
 
@@ -72,32 +69,38 @@ pub fn check_tightening<B: Book>(
     check_opening(book, sets)
 }
 
-// Tightens a copy of the sets, and says whether every field of it still has an option.
+// Tightens a copy of the sets over just the pair words of their fields.
+// It takes what `tighten` takes, as `tighten_sets` does: a struct would be made there and taken apart here.
 fn tighten_copy<B: Book, W: Agenda, V: Agenda>(
-    book: &B,
+    heap: Global,
     sets: &[OptionSet],
     copy: &mut [OptionSet],
-    trial: &mut [OptionSet],
-    strikes: &mut Vec<Strike>,
+    book: &B,
     arcs: &mut W,
     probes: &mut V,
     pairs: &mut [OptionSet],
-) -> bool
+) -> Result<(), Untightened>
     requires accepted { Accepted (B.Book.meaning book.now) (words sets.now) }
     requires room { Room (length sets.now) (words pairs.old) }
     requires copied { copy.old ≡ sets.now }
-    requires trial { length trial.old ≡ length sets.now }
-    requires strikes { 512 ≤ vec_capacity strikes.old }
-    ensures length { length copy.new ≡ length sets.now }
-    ensures rest { StayBeyond (length sets.now) (words pairs.old) (words pairs.new) }
-    ensures filled { result ≡ true → Filled (words copy.new) }
-    ensures tightest { result ≡ true → Tightest (B.Book.meaning book.now) (words sets.now) (part (words copy.new)) (pairs_of (length sets.now) (words pairs.new)) }
-    ensures emptied { result ≡ false → TightWipedOut (B.Book.meaning book.now) (words sets.now) }
+    ensures { TightensCopy (B.Book.meaning book.now) (words sets.now) (words pairs.old) result (words copy.new) (words pairs.new) }
 {
+    let mut trial = Vec::from_slice(heap, sets)?;
+    let mut strikes = Vec::with_capacity(heap, STRIKES)?;
     stand_at_start(book, sets, pairs);
     probes.clear();
     put_probes(probes, sets, sets);
-    probe_all(copy, pairs, trial, strikes, arcs, probes)
+    let mut probing = Probing {
+        sets: copy,
+        pairs,
+        trial: trial.as_mut_slice(),
+        strikes: &mut strikes,
+    };
+    if probing.probe_all(arcs, probes).is_err() {
+        pairs.fill(OptionSet::empty());
+        return Err(EngineFault::NoTightPart.into());
+    }
+    Ok(())
 }
 
 // Tightens, and leaves what waits on the agendas to the caller.
@@ -113,21 +116,8 @@ fn tighten_sets<B: Book, W: Agenda, V: Agenda>(
 {
     check_tightening(book, sets, pairs)?;
     let mut copy = Vec::from_slice(heap, sets)?;
-    let mut trial = Vec::from_slice(heap, sets)?;
-    let mut strikes = Vec::with_capacity(heap, WORDS_A_FIELD)?;
-    if !tighten_copy(
-        book,
-        sets,
-        copy.as_mut_slice(),
-        trial.as_mut_slice(),
-        &mut strikes,
-        arcs,
-        probes,
-        pairs,
-    ) {
-        empty_words(pairs, sets.len() * WORDS_A_FIELD);
-        return Err(EngineFault::NoTightPart.into());
-    }
+    let first = &mut pairs[..sets.len() * WORDS_A_FIELD];
+    tighten_copy(heap, sets, copy.as_mut_slice(), book, arcs, probes, first)?;
     sets.copy_from_slice(copy.as_slice());
     Ok(())
 }

@@ -7,6 +7,7 @@ ghost use Rattle.agenda.specs.Lined.{line, lined_up};
 
 use super::FirstCome;
 use crate::agenda::{Agenda, NUMBERS};
+use crate::number::Number;
 use crate::numbers::NumberSet;
 
 impl FirstCome {
@@ -32,13 +33,13 @@ impl Agenda for FirstCome {
         ensures waiting { Same (put_number (among (line self.old)) number) (among (line self.new)) }
         ensures order { line self.new ≡ lined_up (line self.old) number }
     {
-        if number as usize >= NUMBERS {
+        let Some(number) = Number::new(number) else {
             return false;
-        }
+        };
         if self.marks.contains(number) {
             return true;
         }
-        self.places[(self.first + self.count) % NUMBERS] = number as u64;
+        self.places[(self.first + self.count) % NUMBERS] = number.value as u64;
         self.count += 1;
         self.marks.insert(number);
         true
@@ -53,13 +54,16 @@ impl Agenda for FirstCome {
         if self.count == 0 {
             return None;
         }
-        let number = self.places[self.first] as u16;
+        let number = Number {
+            value: self.places[self.first] as u16,
+        };
         self.first = (self.first + 1) % NUMBERS;
         self.count -= 1;
         self.marks.remove(number);
-        Some(number)
+        Some(number.value)
     }
 
+    // The other agenda clears itself by its constructor too; a body in the trait would need a constructor in the trait.
     fn clear(&mut self)
         ensures waiting { Nothing (among (line self.new)) }
         ensures order { line self.new ≡ [] }

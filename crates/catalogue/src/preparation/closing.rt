@@ -1,90 +1,48 @@
 // Closing a catalogue.
 
-ghost use Rattle.std.specs.Prelude.{◌≡◌, length, Some, None, MatchResult, nat_eq};
-ghost use Rattle.network.specs.Network.{rule_limit};
-ghost use Rattle.catalogue.specs.Content.{any, no_fields, rule_count, closing_refusal};
+ghost use Rattle.std.specs.Prelude.{◌≡◌, Some, None, MatchResult};
+ghost use Rattle.propagation.specs.Refusals.{answer};
+ghost use Rattle.catalogue.specs.Content.{closing_refusal};
 ghost use Rattle.catalogue.specs.View.{content};
 
 use crate::closed::{Closed, Refused};
 use crate::preparation::Preparation;
+use books::formula::FormulaBook;
+use books::joined::Joined;
+use books::table::TableBook;
 use faults::EngineFault;
-use network::options::OptionSet;
-use network::rules::{Ends, FIELDS, FormulaRule, RULES};
-
-// Whether some field has no option.
-fn any_empty(sets: &[OptionSet]) -> bool
-    ensures { result ≡ any (λ s. nat_eq s.word 0) sets.now }
-{
-    for set in sets {
-        if set.is_empty() {
-            return true;
-        }
-    }
-    false
-}
-
-// Whether one of two ends is not among the fields, or they are one.
-fn no_fields(fields: usize, left: u8, right: u8) -> bool
-    ensures { result ≡ no_fields fields left right }
-{
-    left as usize >= fields || right as usize >= fields || left == right
-}
-
-fn any_unfit_table(fields: usize, ends: &[Ends]) -> bool
-    ensures { result ≡ any (λ e. no_fields fields e.left e.right) ends.now }
-{
-    for rule in ends {
-        if no_fields(fields, rule.left, rule.right) {
-            return true;
-        }
-    }
-    false
-}
-
-fn any_unfit_formula(fields: usize, formulas: &[FormulaRule]) -> bool
-    ensures { result ≡ any (λ f. no_fields fields f.left f.right) formulas.now }
-{
-    for rule in formulas {
-        if no_fields(fields, rule.left, rule.right) {
-            return true;
-        }
-    }
-    false
-}
+use propagation::opening::check_opening;
 
 impl<'a> Preparation<'a> {
-    // Why no draft can be opened over the catalogue, if so.
-    fn closing_fault(&self) -> Option<EngineFault>
-        ensures { result ≡ closing_refusal (content self.now) }
+    // The book of all rules: those of the tables, then those of the formulas.
+    fn book(&self) -> Joined<TableBook<'_>, FormulaBook<'_>>
+        ensures ends { result.first.ends.now ≡ (content self.now).ends.entered }
+        ensures rows { result.first.rows.now ≡ (content self.now).rows.entered }
+        ensures formulas { result.second.rules.now ≡ (content self.now).formulas.entered }
     {
-        let fields = self.sets.len();
-        if fields == 0 || fields > FIELDS as usize {
-            return Some(EngineFault::FieldCount);
-        }
-        if any_empty(self.sets.as_slice()) {
-            return Some(EngineFault::EmptySet);
-        }
-        if self.ends.len().saturating_add(self.formulas.len()) > RULES as usize {
-            return Some(EngineFault::RuleCount);
-        }
-        if any_unfit_table(fields, self.ends.as_slice())
-            || any_unfit_formula(fields, self.formulas.as_slice())
-        {
-            return Some(EngineFault::UnfitEnds);
-        }
-        None
+        Joined::new(
+            TableBook::new(self.ends.as_slice(), self.rows.as_slice()),
+            FormulaBook::new(self.formulas.as_slice()),
+        )
+    }
+
+    // Whether a draft can be opened over the catalogue, and the first reason why not.
+    fn check(&self) -> Result<(), EngineFault>
+        ensures { result ≡ answer (closing_refusal (content self.now)) }
+    {
+        check_opening(&self.book(), self.sets.as_slice())
     }
 
     // Closes the catalogue, or hands it back as it was where no draft can be opened over it.
     pub fn close(self) -> Result<Closed<'a>, Refused<'a>>
         ensures { MatchResult result (λ k. (closing_refusal (content self.entry) ≡ None) × (content k.catalogue ≡ content self.entry)) (λ e. (closing_refusal (content self.entry) ≡ Some e.fault) × (content e.catalogue ≡ content self.entry)) }
     {
-        match self.closing_fault() {
-            Some(fault) => Err(Refused {
+        match self.check() {
+            Ok(()) => Ok(Closed { catalogue: self }),
+            Err(fault) => Err(Refused {
                 catalogue: self,
                 fault,
             }),
-            None => Ok(Closed { catalogue: self }),
         }
     }
 }

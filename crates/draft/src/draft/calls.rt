@@ -1,49 +1,29 @@
-// The calls on a draft.
+// The calls on a draft: each is made on what was opened, or refused where the opening was.
+//
+// Field and option stay two numbers: a call is no decision yet, and `perform` takes them apart only to make the call.
+// That book and agenda stay is said of each call but a settle: it is about two states, so no type can say it.
+// Each call tests for itself what was opened: a function that lends it out by `&mut` has no clause on what it leaves.
 
-ghost use Rattle.std.specs.Result.{MatchResult};
-ghost use Rattle.draft.specs.View.{Answers, Untouched, Found, NotFound, done, shown};
+ghost use Rattle.std.specs.Prelude.{◌≡◌};
+ghost use Rattle.agenda.specs.Waiting.{Nothing};
+ghost use Rattle.draft.specs.View.{Answers, Untouched, done, shown, settled};
 ghost use Rattle.draft.specs.declared.types.Call.TheVariants as call;
 
-use crate::draft::{DECISIONS, Draft};
-use crate::record::{put_back, strike_others};
-use crate::types::Taken;
+use crate::draft::Draft;
 use agenda::agenda::Agenda;
 use books::book::Book;
 use faults::EngineFault;
-use network::options::{OPTIONS, OptionSet};
-use propagation::record::{Cause, Decision, Strike};
+use network::options::OptionSet;
 
 impl<B: Book, W: Agenda> Draft<B, W> {
     // Tells what stands in a field.
     pub fn show(&self, field: u8) -> Result<OptionSet, EngineFault>
         ensures { Answers (B.Book.meaning self.now.book) self.now (call.Show field) (shown result) self.now }
     {
-        if !self.accepted {
+        let Ok(opened) = &self.opened else {
             return Err(EngineFault::NotOpened);
-        }
-        let x = field as usize;
-        if x >= self.opening.len() {
-            return Err(EngineFault::OutOfRange);
-        }
-        Ok(self.standing[x])
-    }
-
-    // The set in which an option stands that is to be decided on, or why no decision on it can be taken.
-    fn find(&self, field: u8, option: u8) -> Result<OptionSet, EngineFault>
-        ensures { MatchResult result (Found self.now field option) (NotFound self.now field option) }
-    {
-        if !self.accepted {
-            return Err(EngineFault::NotOpened);
-        }
-        let x = field as usize;
-        if x >= self.opening.len() || option >= OPTIONS {
-            return Err(EngineFault::OutOfRange);
-        }
-        let set = self.standing[x];
-        if !set.contains(option) {
-            return Err(EngineFault::NotStanding);
-        }
-        Ok(set)
+        };
+        opened.show(field)
     }
 
     // Leaves one option of a field out.
@@ -51,24 +31,10 @@ impl<B: Book, W: Agenda> Draft<B, W> {
         ensures untouched { Untouched self.old self.new }
         ensures answer { Answers (B.Book.meaning self.old.book) self.old (call.Exclude field option) (done result) self.new }
     {
-        let set = self.find(field, option)?;
-        let others = set.without(option);
-        if others.is_empty() {
-            return Err(EngineFault::LastOption);
-        }
-        if self.taken.len() == DECISIONS {
-            return Err(EngineFault::TooManyDecisions);
-        }
-        let decision = Decision::Exclude { field, option };
-        let mark = self.strikes.len();
-        self.strikes.push_reserved(Strike {
-            field,
-            option,
-            cause: Cause::Decided(decision),
-        });
-        self.standing[field as usize] = others;
-        self.taken.push_reserved(Taken { decision, mark });
-        Ok(())
+        let Ok(opened) = &mut self.opened else {
+            return Err(EngineFault::NotOpened);
+        };
+        opened.exclude(field, option)
     }
 
     // Decides on one option of a field: every other option there is struck.
@@ -76,18 +42,10 @@ impl<B: Book, W: Agenda> Draft<B, W> {
         ensures untouched { Untouched self.old self.new }
         ensures answer { Answers (B.Book.meaning self.old.book) self.old (call.Choose field option) (done result) self.new }
     {
-        let set = self.find(field, option)?;
-        if self.taken.len() == DECISIONS {
-            return Err(EngineFault::TooManyDecisions);
-        }
-        let mark = self.strikes.len();
-        strike_others(&mut self.strikes, set, field, option);
-        self.standing[field as usize] = OptionSet::only(option);
-        self.taken.push_reserved(Taken {
-            decision: Decision::Choose { field, option },
-            mark,
-        });
-        Ok(())
+        let Ok(opened) = &mut self.opened else {
+            return Err(EngineFault::NotOpened);
+        };
+        opened.choose(field, option)
     }
 
     // Drops the latest decision, and puts back what was struck by it or after it.
@@ -95,21 +53,24 @@ impl<B: Book, W: Agenda> Draft<B, W> {
         ensures untouched { Untouched self.old self.new }
         ensures answer { Answers (B.Book.meaning self.old.book) self.old call.TakeBack (done result) self.new }
     {
-        if !self.accepted {
+        let Ok(opened) = &mut self.opened else {
             return Err(EngineFault::NotOpened);
-        }
-        let count = self.taken.len();
-        if count == 0 {
-            return Err(EngineFault::NoDecision);
-        }
-        let last = self.taken[count - 1];
-        put_back(
-            self.standing.as_mut_slice(),
-            self.strikes.as_slice(),
-            last.mark,
-        );
-        self.strikes.truncate(last.mark);
-        self.taken.truncate(count - 1);
-        Ok(())
+        };
+        opened.take_back()
+    }
+
+    // Leaves the largest arc-consistent part of what stands, and tells how many options it struck and how many now
+    // stand. Where a field would become empty nothing changes, and the fault names the field and a rule of it.
+    // A rule of the project: a settle of a draft answers a tuple of two counts.
+    pub fn settle(&mut self) -> Result<(u16, u16), EngineFault>
+        ensures meaning { B.Book.meaning self.new.book ≡ B.Book.meaning self.old.book }
+        ensures waiting { Nothing (W.Agenda.waiting self.new.agenda) }
+        ensures answer { Answers (B.Book.meaning self.old.book) self.old call.Settle (settled result) self.new }
+    {
+        let Ok(opened) = &mut self.opened else {
+            self.agenda.clear();
+            return Err(EngineFault::NotOpened);
+        };
+        opened.settle(&mut self.book, &mut self.agenda)
     }
 }

@@ -10,6 +10,7 @@ use crate::draft::opens::Unopened;
 use crate::types::{Answer, Call};
 use agenda::agenda::Agenda;
 use books::book::Book;
+use faults::EngineFault;
 use network::options::OptionSet;
 use std::alloc::Global;
 
@@ -17,12 +18,12 @@ use std::alloc::Global;
 #[derive(Drop)]
 pub struct Replayed<B: Book, W: Agenda> {
     pub draft: Draft<B, W>,
-    pub answers: Vec<Answer>,
+    pub answers: Vec<Result<Answer, EngineFault>>,
 }
 
 impl<B: Book, W: Agenda> Draft<B, W> {
     // Makes each call of a list, and adds its answer to a list that has room for them.
-    fn perform_each(&mut self, calls: &[Call], answers: &mut Vec<Answer>)
+    fn perform_each(&mut self, calls: &[Call], answers: &mut Vec<Result<Answer, EngineFault>>)
         requires empty { vec_len answers.old ≡ 0 }
         requires room { length calls.now ≤ vec_capacity answers.old }
         ensures meaning { B.Book.meaning self.new.book ≡ B.Book.meaning self.old.book }

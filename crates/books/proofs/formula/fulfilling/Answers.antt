@@ -1,56 +1,58 @@
-use Rattle.std.proofs.Common.{◌≡◌, pos, ◌+ℤ◌, ◌-ℤ◌, ap, ◌∙◌, arith, w8, w16, SFits, to_z, of_z, rules}
+use Rattle.std.proofs.Common.{◌≡◌, ℕ, ℤ, pos, ◌+ℤ◌, ◌-ℤ◌, ap, ◌∙◌, arith, w8, w16, SFits, to_z, of_z, rules}
+use Rattle.std.proofs.Math.Bool.{and-or_distrib_left}
 use Rattle.std.proofs.lemmas.Int.{ints, to_z-of_z}
-use Rattle.network.specs.Network.{has}
+use Rattle.network.specs.declared.rules.Side.{Side}
 use Rattle.network.proofs.Bits.{has_or}
 use Rattle.books.specs.Formula.{meeting_on}
-use Rattle.books.proofs.Differences.{equal_chosen, different_chosen, at_most_chosen, apart_chosen}
+use Rattle.books.proofs.Differences.{meets, differs, at_most, apart}
 use Rattle.books.proofs.formula.fulfilling.Goals as goal
+
+-- where the number is met, through the casts of the code
+met : (side : Side) (a : ℕ) (d m : ℤ) → SFits w8 d → m ≡ meeting_on side a (to_z w8 (of_z w8 d)) → m ≡ meeting_on side a d
+met side a d m small e = e ∙ ap (meeting_on side a) (to_z-of_z w8 d small)
 
 pub returns-in-Equal : goal.returns-in-Equal
 returns-in-Equal c b =
     let d = c.args.rule.difference in
-    let m = c.meeting-across.result in
-    let small : SFits w8 d = search rules in
-    let fits : SFits w16 m = search rules in
-    let is : to_z w16 (of_z w16 m) ≡ meeting_on c.args.side c.args.option d =
-    to_z-of_z w16 m fits ∙ c.meeting-across.ensures ∙ ap (meeting_on c.args.side c.args.option) (to_z-of_z w8 d small) in
-    equal_chosen c.args.side c.args.option b d c.args.rule.kind (has c.args.set.word b) (has c.starting_at.result.word b) (has 0 b) (has c.up_to.result.word b) _ _ c.in-Equal.is is is (c.starting_at.ensures b) (c.up_to.ensures b)
+    let is = met c.args.side c.args.option d c.meeting-across.result (search rules) c.meeting-across.ensures in
+    let e = meets c.args.side c.args.option b d in
+    rw (c.in-Equal.is, c.up_to.ensures b, c.starting_at.ensures b) (grind (arith, ints, e))
 
 pub returns-in-Different : goal.returns-in-Different
 returns-in-Different c b =
     let d = c.args.rule.difference in
     let m = c.meeting-across.result in
-    let small : SFits w8 d = search rules in
+    let is = met c.args.side c.args.option d m (search rules) c.meeting-across.ensures in
     let fits : SFits w16 m = search rules in
     let less : SFits w16 (m -ℤ pos 1) = search rules in
     let more : SFits w16 (m +ℤ pos 1) = search rules in
-    let same = to_z-of_z w16 m fits in
-    let is : m ≡ meeting_on c.args.side c.args.option d =
-    c.meeting-across.ensures ∙ ap (meeting_on c.args.side c.args.option) (to_z-of_z w8 d small) in
-    let under : to_z w16 (of_z w16 (to_z w16 (of_z w16 m) -ℤ pos 1)) ≡ meeting_on c.args.side c.args.option d -ℤ pos 1 =
-    ap (λ x. to_z w16 (of_z w16 (x -ℤ pos 1))) same ∙ to_z-of_z w16 (m -ℤ pos 1) less ∙ ap (λ x. x -ℤ pos 1) is in
-    let over : to_z w16 (of_z w16 (to_z w16 (of_z w16 m) +ℤ pos 1)) ≡ meeting_on c.args.side c.args.option d +ℤ pos 1 =
-    ap (λ x. to_z w16 (of_z w16 (x +ℤ pos 1))) same ∙ to_z-of_z w16 (m +ℤ pos 1) more ∙ ap (λ x. x +ℤ pos 1) is in
-    different_chosen c.args.side c.args.option b d c.args.rule.kind (has c.args.set.word b) (has c.up_to-in-Different.result.word b) (has c.starting_at-in-Different.result.word b) (has c.union.result.word b) _ _ c.in-Different.is under over (c.up_to-in-Different.ensures b) (c.starting_at-in-Different.ensures b)
-    (ap (λ w. has w b) c.union.ensures ∙ has_or c.up_to-in-Different.result.word c.starting_at-in-Different.result.word b)
+    rw (
+      c.in-Different.is,
+      c.union.ensures,
+      has_or,
+      c.up_to-in-Different.ensures b,
+      c.starting_at-in-Different.ensures b,
+      ← and-or_distrib_left,
+      to_z-of_z w16 m fits,
+      to_z-of_z w16 (m -ℤ pos 1) less,
+      to_z-of_z w16 (m +ℤ pos 1) more,
+      is,
+      differs c.args.side c.args.option b d,
+    )
 
 pub returns-in-AtMost : goal.returns-in-AtMost
 returns-in-AtMost c b =
     let d = c.args.rule.difference in
     let m = c.meeting-across.result in
-    let small : SFits w8 d = search rules in
-    let fits : SFits w16 m = search rules in
-    let is : to_z w16 (of_z w16 m) ≡ meeting_on c.args.side c.args.option d =
-    to_z-of_z w16 m fits ∙ c.meeting-across.ensures ∙ ap (meeting_on c.args.side c.args.option) (to_z-of_z w8 d small) in
-    at_most_chosen c.args.side c.args.option b d c.args.rule.kind (has c.args.set.word b) (has 0 b) (has 0 b) (has c.at_most.result.word b) _ c.in-AtMost.is is (c.at_most.ensures b)
+    let is = met c.args.side c.args.option d m (search rules) c.meeting-across.ensures in
+    let same : to_z w16 (of_z w16 m) ≡ meeting_on c.args.side c.args.option d = omega (arith, ints) in
+    rw (c.in-AtMost.is, c.at_most.ensures b, same, at_most c.args.side c.args.option b d)
 
 pub returns-in-Apart : goal.returns-in-Apart
 returns-in-Apart c b =
     let d = c.args.rule.difference in
     let small : SFits w8 d = search rules in
-    let own : c.from-own.result ≡ pos c.args.option = c.from-own.ensures in
     let number : c.from-number.result ≡ d = c.from-number.ensures ∙ to_z-of_z w8 d small in
     let under : to_z w16 (of_z w16 (to_z w16 (of_z w16 c.from-own.result) -ℤ to_z w16 (of_z w16 c.from-number.result))) ≡ pos c.args.option -ℤ d = omega (arith, ints) in
     let over : to_z w16 (of_z w16 (to_z w16 (of_z w16 c.from-own.result) +ℤ to_z w16 (of_z w16 c.from-number.result))) ≡ pos c.args.option +ℤ d = omega (arith, ints) in
-    apart_chosen c.args.side c.args.option b d c.args.rule.kind (has c.args.set.word b) (has c.up_to-in-Apart.result.word b) (has c.starting_at-in-Apart.result.word b) (has c.union-in-Apart.result.word b) _ _ c.in-Apart.is under over (c.up_to-in-Apart.ensures b) (c.starting_at-in-Apart.ensures b)
-    (ap (λ w. has w b) c.union-in-Apart.ensures ∙ has_or c.up_to-in-Apart.result.word c.starting_at-in-Apart.result.word b)
+    rw (c.in-Apart.is, c.union-in-Apart.ensures, has_or, c.up_to-in-Apart.ensures b, c.starting_at-in-Apart.ensures b, ← and-or_distrib_left, under, over, apart c.args.side c.args.option b d)

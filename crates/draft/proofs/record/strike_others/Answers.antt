@@ -1,49 +1,79 @@
-use Rattle.std.proofs.Common.{◌≡◌, true, false, not, eqb, [], ◌∷◌, ◌++◌, length, vec_items, vec_capacity, sym, refl, ap, ◌∙◌, ⊎_elim, add-one, arith}
+use Rattle.std.proofs.Common.{◌≡◌, ℕ, ◌-◌, ◌^◌, ◌≤◌, true, false, cond, not, ◌&&◌, T, eqb, [], ◌∷◌, ◌++◌, length, vec_items, sym, refl, ap, ◌∙◌, subst, arith}
 use Rattle.std.proofs.lemmas.List.{append_assoc, append-nil, length-append}
-use Rattle.std.proofs.lemmas.Bool.{and_from, and_left, and_right, eq-eqb, ne_eqb, not_from_true, not_from_false}
-use Rattle.network.specs.Network.{has}
-use Rattle.draft.specs.Draft.{strikes_below}
-use Rattle.draft.proofs.Choosing.{goes, chosen_out, below_none, below_goes, below_stays, below_room}
+use Rattle.std.proofs.lemmas.Bool.{eq-eqb}
+use Rattle.network.specs.Network.{option_limit, has}
+use Rattle.network.specs.Sets.{set_without}
+use Rattle.network.proofs.Truth.{T_no, and_false}
+use Rattle.network.proofs.Bits.{has_less, has_below}
+use Rattle.network.proofs.Masks.{has_without}
+use Rattle.draft.specs.Draft.{choose_strikes}
+use Rattle.draft.proofs.Choosing.{chosen_out, none_struck, others_struck, lowest_first}
 use Rattle.draft.proofs.record.strike_others.Goals as goal
-use Rattle.draft.proofs.record.strike_others.Goals.{then-contains+then-other-option, else-contains}
+
+-- the lowest of the others is not the chosen option
+differs : (w a low : ℕ) → T (has w low) → has w a ≡ false → low ≡ a → ⊥
+differs w a low here gone e = T_no (has w a) gone (subst (λ b. T (has w b)) e here)
+
+without_le : (w a : ℕ) → set_without w a ≤ w
+without_le w a = elim (has w a) as (λ b. cond b (w - 2 ^ a) w ≤ w) [ true ↦ omega arith | false ↦ omega arith ]
 
 pub push_reserved-requires : goal.push_reserved-requires
 push_reserved-requires c =
-    let test : goes c.args.set.word c.args.option c.loop-other.other ≡ true = and_from _ _ (sym c.if-contains.ensures) (not_from_false _ (ne_eqb _ _ c.if-other-option.true)) in
-    let room = below_room c.args.set.word c.args.field c.args.option c.loop-other.other c.loop-other-test.true test in
-    omega (arith, ap length c.loop-other.invariant.0, length-append (vec_items c.args.strikes.now) (strikes_below c.loop-other.other c.args.set.word c.args.field c.args.option), room)
+    let w = c.loop-other.others.word in
+    let x = c.args.field in
+    let a = c.args.option in
+    let inv = c.loop-other.invariant in
+    let least = c.in-Some.ensures.least in
+    let first = lowest_first w x a c.in-Some.other least.0 least.1 (differs w a c.in-Some.other least.0 inv.others) option_limit (has_below option_limit w c.in-Some.other inv.fits least.0) in
+    omega (
+      arith,
+      ap length inv.items,
+      length-append (vec_items c.loop-other.strikes) (choose_strikes w x a),
+      length-append (vec_items c.args.strikes.now) (choose_strikes c.args.set.word x a),
+      ap length first,
+      inv.capacity,
+      c.requires.room,
+      c.loop-other.strikes.ok.0,
+      c.args.strikes.now.ok.0,
+    )
 
 pub loop-other-preserved : goal.loop-other-preserved
 loop-other-preserved c =
-    let old = vec_items c.args.strikes.now in
+    let w = c.loop-other.others.word in
+    let x = c.args.field in
+    let a = c.args.option in
+    let inv = c.loop-other.invariant in
+    let low = c.in-Some.other in
+    let least = c.in-Some.ensures.least in
+    let after = c.in-Some.ensures.after in
+    let first = lowest_first w x a low least.0 least.1 (differs w a low least.0 inv.others) option_limit (has_below option_limit w low inv.fits least.0) in
+    record {
+      items = ap (λ ss. ss ++ choose_strikes c.take_lowest.new.self.word x a) c.push_reserved.ensures.items ∙ append_assoc (vec_items c.loop-other.strikes) (chosen_out x a low ∷ []) _
+          ∙ ap (λ v. vec_items c.loop-other.strikes ++ (chosen_out x a low ∷ choose_strikes v x a)) after ∙ ap (λ ss. vec_items c.loop-other.strikes ++ ss) (sym first) ∙ inv.items;
+      capacity = c.push_reserved.ensures.capacity ∙ inv.capacity;
+      fits = omega (arith, after, inv.fits);
+      others = ap (λ v. has v a) after ∙ has_less w low a least.0 ∙ ap (λ h. h && not (eqb a low)) inv.others;
+    }
+
+pub loop-other-init : goal.loop-other-init
+loop-other-init c =
     let w = c.args.set.word in
     let x = c.args.field in
     let a = c.args.option in
-    let b = c.loop-other.other in
-    elim c.if-contains.branch [
-      | then-contains+then-other-option v ↦
-          let test : goes w a b ≡ true = and_from _ _ (sym v.if-contains.ensures) (not_from_false _ (ne_eqb _ _ v.if-other-option.true)) in (
-            ap vec_items v.strikes-is ∙ v.push_reserved.ensures.items ∙ ap (λ ss. ss ++ chosen_out x a b ∷ []) c.loop-other.invariant.0 ∙ append_assoc old (strikes_below b w x a) (chosen_out x a b ∷ []) ∙ ap (λ ss. old ++ ss) (sym (ap (λ n. strikes_below n w x a) (add-one b) ∙ below_goes w x a b test)),
-            ap vec_capacity v.strikes-is ∙ v.push_reserved.ensures.capacity ∙ c.loop-other.invariant.1,
-          )
-      | else-contains v ↦
-          let test : goes w a b ≡ false =
-          ⊎_elim
-          (λ p. and_right (has w b) (not (eqb b a)) (not_from_true _ (eq-eqb b a p.1)))
-          (λ p. and_left (has w b) (not (eqb b a)) (sym c.contains.ensures ∙ p))
-          v.else-contains.either in (
-            ap vec_items v.strikes-is ∙ c.loop-other.invariant.0 ∙ ap (λ ss. old ++ ss) (sym (ap (λ n. strikes_below n w x a) (add-one b) ∙ below_stays w x a b test)),
-            ap vec_capacity v.strikes-is ∙ c.loop-other.invariant.1,
-          )
-    ]
-
-pub loop-other-init : goal.loop-other-init
-loop-other-init c = (sym (ap (λ ss. vec_items c.args.strikes.now ++ ss) (below_none c.args.set.word c.args.field c.args.option) ∙ append-nil (vec_items c.args.strikes.now)), refl)
+    record {
+      items = ap (λ ss. vec_items c.args.strikes.now ++ ss) (ap (λ v. choose_strikes v x a) c.without-others.ensures ∙ others_struck w x a option_limit);
+      capacity = refl;
+      fits = omega (arith, c.without-others.ensures, without_le w a, c.requires.fits);
+      others = ap (λ v. has v a) c.without-others.ensures ∙ has_without w a a ∙ ap (λ v. has w a && not v) (eq-eqb a a refl) ∙ and_false (has w a);
+    }
 
 pub returns : goal.returns
 returns c =
-    let end : c.loop-other.other ≡ 32 = omega arith in
+    let x = c.args.field in
+    let a = c.args.option in
+    let inv = c.loop-other.invariant in
+    let none : choose_strikes c.loop-other.others.word x a ≡ [] = ap (λ v. choose_strikes v x a) c.in_default.ensures.least ∙ none_struck x a option_limit in
     record {
-      items = c.loop-other.invariant.0 ∙ ap (λ n. vec_items c.args.strikes.now ++ strikes_below n c.args.set.word c.args.field c.args.option) end;
-      capacity = c.loop-other.invariant.1;
+      items = sym (ap (λ ss. vec_items c.loop-other.strikes ++ ss) none ∙ append-nil (vec_items c.loop-other.strikes)) ∙ inv.items;
+      capacity = inv.capacity;
     }

@@ -1,29 +1,28 @@
-use Rattle.std.proofs.Common.{◌≡◌, ℕ, ◌-◌, List, length, take, sym, ap, ◌∙◌, arith, lit≤}
+use Rattle.std.proofs.Common.{◌≡◌, ℕ, List, sym, ap, ◌∙◌}
+use Rattle.std.proofs.lemmas.Result.{err_from_is_err_and}
 use Rattle.frames.specs.Lines.{line_of, IsFrame}
 use Rattle.frames.specs.Frames.{decoding, frame_bytes}
+use Rattle.frames.proofs.Clipping.{refused}
 use Rattle.frames.proofs.Framing.{decodes, encodes, is_frame, made_of}
-use Rattle.frames.proofs.Reading.{no_fault, told}
+use Rattle.frames.proofs.Reading.{no_frame, line_tells}
 use Rattle.frames.proofs.frames.receive.Goals as goal
 
--- what is decoded is the front that was read
-front : (c : goal.After-decode) → c.decode.result ≡ decoding (take c.in_ok-size.size c.read_line.new.frame)
-front c =
-    let same : c.in_ok-size.size - 0 ≡ c.in_ok-size.size = omega arith in
-    c.decode.ensures ∙ ap (λ k. decoding (take k c.read_line.new.frame)) same
-
-as_read : (c : goal.After-decode) (bytes : List ℕ) → IsFrame bytes → c.args.line.now ≡ line_of bytes → c.decode.result ≡ decoding bytes
-as_read c bytes f is =
-    let r = c.in_ok-size.ensures.back bytes f is (lit≤ tt) in
-    front c ∙ ap (λ k. decoding (take k c.read_line.new.frame)) (told c.in_ok-size.size (length bytes) r.0) ∙ ap decoding r.1
+pub returns-in_err-bytes : goal.returns-in_err-bytes
+returns-in_err-bytes c =
+    let p = err_from_is_err_and c.from_residual.result c.from_residual.ensures.1 in
+    rw (p.1, p.2) (refused c.args.line.now c.in_err-bytes.field-0.0 c.in_err-bytes.ensures)
 
 pub returns : goal.returns
 returns c =
-    let n = c.in_ok-size.size in
-    let bytes = c.read_line.new.frame in
-    let read = c.in_ok-size.ensures in
+    let line = c.args.line.now in
+    let bytes = c.in_ok-bytes.bytes.items in
+    let frame = c.in_ok-bytes.ensures.0 in
+    let is = c.in_ok-bytes.ensures.1 in
+    let decoded : c.decode.result ≡ decoding bytes = c.decode.ensures ∙ ap decoding c.as_slice.ensures.value in
+    let as_read = λ (other : List ℕ) (f : IsFrame other) (e : line ≡ line_of other). decoded ∙ ap decoding (line_tells bytes other frame f (sym is ∙ e)) in
     record {
-      bad_line = λ fault e. no_fault n fault (read.answer ∙ e);
-      good_line = as_read c;
-      accepts = λ frame h is. as_read c (frame_bytes frame) (is_frame frame h) is ∙ decodes frame h;
-      only = made_of c.decode.result _ (λ frame e. read.after.1 ∙ ap line_of (sym (encodes (take n bytes) read.after.0.fit frame (sym (front c) ∙ e))));
+      bad_line = λ fault e. no_frame line fault e bytes frame is;
+      good_line = as_read;
+      accepts = λ f h e. as_read (frame_bytes f) (is_frame f h) e ∙ decodes f h;
+      only = made_of c.decode.result _ (λ f e. is ∙ ap line_of (sym (encodes bytes frame.fit f (sym decoded ∙ e))));
     }

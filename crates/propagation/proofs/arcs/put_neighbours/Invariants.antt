@@ -5,4 +5,4 @@ use Rattle.propagation.proofs.arcs.put_neighbours.Given as goal
 abbrev pub invariant-loop-rule : goal.invariant-loop-rule
 invariant-loop-rule g l =
     let w = g.W.Agenda.waiting l.agenda in
-    OnlyBelow (length l.ends) w × Still (g.W.Agenda.waiting l.initial.agenda) w × Neighbours l.ends l.rule l.field l.revised w
+    OnlyBelow (length l.ends) w × Still (g.W.Agenda.waiting l.initial.agenda) w × Neighbours l.ends l.rule l.revised.own l.revised.arc.rule w

@@ -1,119 +1,95 @@
-use Rattle.std.proofs.Common.{◌≡◌, ℕ, ◌<◌, ◌≤◌, true, take, sym, refl, ◌∙◌, subst, arith}
-use Rattle.network.specs.Network.{part, words}
-use Rattle.network.proofs.Words.{length_words}
+use Rattle.std.proofs.Common.{◌≡◌, ℕ, ◌<◌, ◌≤◌, true, List, Vec, sym, ◌∙◌, subst, arith}
+use Rattle.network.specs.Network.{Rule, words}
+use Rattle.network.specs.declared.options.OptionSet.{OptionSet}
 use Rattle.agenda.specs.Jobs.{arc_number, arc_of, arc_fits}
 use Rattle.agenda.proofs.Takes.{none_waits}
 use Rattle.agenda.proofs.Waits.{waits_without}
-use Rattle.propagation.specs.Arcs.{Listed, BetweenFields, OnlyBelow, AllBelow}
-use Rattle.propagation.specs.Progress.{Progress}
+use Rattle.propagation.specs.Progress.{Progress, SettledOn}
+use Rattle.propagation.specs.declared.record.Strike.{Strike}
+use Rattle.propagation.specs.Standing.{Led}
 use Rattle.propagation.specs.Turns.{Ready, Turned, Wiped, work}
-use Rattle.propagation.proofs.Steps.{progress_none, progress_then, progress_count}
-use Rattle.propagation.proofs.Ends.{listed_between, sound_from, ready_from, wiped_from, settled_on, all_wait}
+use Rattle.propagation.proofs.Steps.{led_then}
+use Rattle.propagation.proofs.Ends.{sound_from, ready_from, wiped_from, settled_on}
 use Rattle.propagation.proofs.propagate.propagate.Goals as goal
 
-pub put_all-requires : goal.put_all-requires
-put_all-requires g c =
-    let rules = g.B.Book.meaning c.args.book.now in
-    let slice = c.args.sets.now in
-    let between = listed_between rules (words slice) _ (sound_from rules (words slice) c.requires.accepted) c.list_ends-count.ensures.listed in
-    record { fields = subst (BetweenFields _) (length_words slice) between; nothing = c.clear.ensures.waiting }
+-- the same said of the sets and the list once they are given back
+progress_back : {Z : Type 0} (rules : List Rule) (s : List ℕ) (v : Vec Strike Z) {a b : List OptionSet} {u w : Vec Strike Z} → Progress rules s v (words b) w → a ≡ b → u ≡ w → Progress rules s v (words a) u
+progress_back rules s v {a = a} {b = b} {u = u} {w = w} p e f = subst (λ x. Progress rules s v (words x) u) (sym e) (subst (λ x. Progress rules s v (words b) x) (sym f) p)
 
-pub loop-arc-init : goal.loop-arc-init
-loop-arc-init g c =
+settled_back : (rules : List Rule) (s : List ℕ) {a b : List OptionSet} → SettledOn rules s (words b) → a ≡ b → SettledOn rules s (words a)
+settled_back rules s h e = subst (λ x. SettledOn rules s (words x)) (sym e) h
+
+pub turn-requires-clause-ready : goal.turn-requires-clause-ready
+turn-requires-clause-ready g c =
     let rules = g.B.Book.meaning c.args.book.now in
     let s = words c.args.sets.now in
-    let w = g.W.Agenda.waiting c.put_all.new.agenda in
-    let count = c.list_ends-count.ensures.listed.count in (
-      refl,
-      progress_none rules s c.args.strikes.now,
-      c.requires.accepted.filled,
-      subst (λ n. OnlyBelow n w) count c.put_all.ensures.only,
-      all_wait rules (part s) w (subst (λ n. AllBelow n w) count c.put_all.ensures.every),
-    )
-
-pub turn-requires : goal.turn-requires
-turn-requires g c =
-    let rules = g.B.Book.meaning c.args.book.now in
-    let s = words c.args.sets.now in
-    let s' = words c.loop-arc.sets in
-    let v = c.args.strikes.now in
-    let v' = c.loop-arc.strikes in
+    let s' = words c.loop-arc.standing.sets.now in
     let w = g.W.Agenda.waiting c.loop-arc.agenda in
     let w' = g.W.Agenda.waiting c.take_job.new.agenda in
     let arc = c.in-Some.arc in
     let inv = c.loop-arc.invariant in
     let took = c.in-Some.ensures.taken.1 in
-    let ready = ready_from rules s s' v v' inv.1 (sound_from rules s c.requires.accepted) w w' arc inv.2 inv.3 inv.4 took.0 took.1 in
-    record {
-      ready = subst (λ rs. Ready rs s' w' arc) (sym inv.0) ready;
-      room = omega (arith, progress_count rules s s' v v' inv.1, inv.1.cap, c.requires.room);
-      listed = subst (λ rs. Listed rs (take c.list_ends-count.result c.list_ends-count.new.ends)) (sym inv.0) c.list_ends-count.ensures.listed;
-    }
+    let ready = ready_from rules s s' _ _ inv.led.progress (sound_from rules s c.requires.accepted) w w' arc inv.filled inv.only inv.others took.0 took.1 in
+    subst (λ rs. Ready rs s' w' arc) (sym inv.same) ready
 
 pub returns-in-Err : goal.returns-in-Err
 returns-in-Err g c =
     let rules = g.B.Book.meaning c.args.book.now in
     let s₀ = words c.args.sets.now in
-    let s₁ = words c.loop-arc.sets in
-    let s₂ = words c.turn.new.sets in
-    let v₀ = c.args.strikes.now in
-    let v₁ = c.loop-arc.strikes in
-    let v₂ = c.turn.new.strikes in
+    let s₂ = words c.turn.new.self.sets.now in
     let inv = c.loop-arc.invariant in
     let done = c.in-Err.ensures in
-    let q : Progress rules s₁ v₁ s₂ v₂ = subst (λ rs. Progress rs s₁ v₁ s₂ v₂) inv.0 done.progress in
-    let p = progress_then rules s₀ s₁ s₂ v₀ v₁ v₂ inv.1 q in
-    let wiped : Wiped rules s₂ c.in-Err.wiped = subst (λ rs. Wiped rs s₂ c.in-Err.wiped) inv.0 done.cases in
+    let led = led_then rules _ c.loop-arc.standing c.turn.new.self inv.led (subst (λ rs. Led rs c.loop-arc.standing c.turn.new.self) inv.same done.led) in
+    let wiped = subst (λ rs. Wiped rs s₂ c.in-Err.wiped) inv.same done.cases in
     record {
-      meaning = done.same ∙ inv.0;
+      meaning = done.same ∙ inv.same;
       waiting = c.clear-in-Err.ensures.waiting;
-      progress = p;
-      answer = wiped_from rules s₀ s₂ v₀ v₂ p (sound_from rules s₀ c.requires.accepted) c.in-Err.wiped c.requires.accepted.filled wiped;
+      progress = progress_back rules s₀ _ led.progress (grind arith) (grind arith);
+      answer = wiped_from rules s₀ s₂ _ _ led.progress (sound_from rules s₀ c.requires.accepted) c.in-Err.wiped c.requires.accepted.filled wiped;
     }
 
 pub loop-arc-smaller : goal.loop-arc-smaller
 loop-arc-smaller g c =
     let w = g.W.Agenda.waiting c.loop-arc.agenda in
     let w' = g.W.Agenda.waiting c.take_job.new.agenda in
-    let inv = c.loop-arc.invariant in
     let took = c.in-Some.ensures.taken.1 in
     let n = arc_number c.in-Some.arc in
-    let small : n < 256 = omega (arith, inv.3 n took.0, c.requires.accepted.rules_few) in
-    let less : work (words c.turn.new.sets) (g.W.Agenda.waiting c.turn.new.agenda) ≤ work (words c.loop-arc.sets) w' = c.in_default-turn.ensures.cases.less in
+    let small : n < 256 = omega (arith, c.loop-arc.invariant.only n took.0, c.requires.accepted.rules_few) in
+    let less : work (words c.turn.new.self.sets.now) (g.W.Agenda.waiting c.turn.new.agenda) ≤ work (words c.loop-arc.standing.sets.now) w' = c.in_default-turn.ensures.cases.less in
     omega (arith, less, waits_without w w' n 256 small took.0 took.1)
 
 pub loop-arc-preserved : goal.loop-arc-preserved
 loop-arc-preserved g c =
     let rules = g.B.Book.meaning c.args.book.now in
-    let s₀ = words c.args.sets.now in
-    let s₁ = words c.loop-arc.sets in
-    let s₂ = words c.turn.new.sets in
-    let v₀ = c.args.strikes.now in
-    let v₁ = c.loop-arc.strikes in
-    let v₂ = c.turn.new.strikes in
+    let s₁ = words c.loop-arc.standing.sets.now in
+    let s₂ = words c.turn.new.self.sets.now in
     let w' = g.W.Agenda.waiting c.take_job.new.agenda in
     let w'' = g.W.Agenda.waiting c.turn.new.agenda in
     let inv = c.loop-arc.invariant in
     let done = c.in_default-turn.ensures in
-    let q : Progress rules s₁ v₁ s₂ v₂ = subst (λ rs. Progress rs s₁ v₁ s₂ v₂) inv.0 done.progress in
-    let turned : Turned rules s₁ w' s₂ w'' = subst (λ rs. Turned rs s₁ w' s₂ w'') inv.0 done.cases in
-    (done.same ∙ inv.0, progress_then rules s₀ s₁ s₂ v₀ v₁ v₂ inv.1 q, turned.filled, turned.only, turned.others)
+    let turned = subst (λ rs. Turned rs s₁ w' s₂ w'') inv.same done.cases in
+    record {
+      same = done.same ∙ inv.same;
+      led = led_then rules _ c.loop-arc.standing c.turn.new.self inv.led (subst (λ rs. Led rs c.loop-arc.standing c.turn.new.self) inv.same done.led);
+      filled = turned.filled;
+      only = turned.only;
+      others = turned.others;
+    }
 
 pub returns : goal.returns
 returns g c =
     let rules = g.B.Book.meaning c.args.book.now in
     let s = words c.args.sets.now in
-    let s' = words c.loop-arc.sets in
-    let v = c.args.strikes.now in
-    let v' = c.loop-arc.strikes in
+    let s' = words c.loop-arc.standing.sets.now in
     let w = g.W.Agenda.waiting c.loop-arc.agenda in
     let w' = g.W.Agenda.waiting c.take_job.new.agenda in
     let inv = c.loop-arc.invariant in
-    let below : (k : ℕ) → w k ≡ true → k < 256 = λ k h. omega (arith, inv.3 k h, c.requires.accepted.rules_few) in
+    let p = inv.led.progress in
+    let below : (k : ℕ) → w k ≡ true → k < 256 = λ k h. omega (arith, inv.only k h, c.requires.accepted.rules_few) in
     let none = none_waits 256 arc_fits arc_number arc_of w w' below c.in_default.ensures.taken in
     record {
-      meaning = inv.0;
+      meaning = inv.same;
       waiting = none.1;
-      progress = inv.1;
-      answer = settled_on rules s s' v v' inv.1 (sound_from rules s c.requires.accepted) w inv.2 inv.4 none.0;
+      progress = progress_back rules s _ p (grind arith) (grind arith);
+      answer = settled_back rules s (settled_on rules s s' _ _ p (sound_from rules s c.requires.accepted) w inv.filled inv.others none.0) (grind arith);
     }

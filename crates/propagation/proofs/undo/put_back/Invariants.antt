@@ -1,11 +1,7 @@
-use Rattle.std.proofs.Common.{◌≡◌, ◌≤◌, min, length, drop}
+use Rattle.std.proofs.Common.{◌≡◌, map, reverse}
 use Rattle.network.specs.Network.{words}
 use Rattle.propagation.specs.Undo.{put_all}
 use Rattle.propagation.proofs.undo.put_back.Given as goal
 
-abbrev pub invariant-loop-i : goal.invariant-loop-i
-invariant-loop-i l =
-    (words l.sets ≡ put_all (words l.initial.sets) (drop l.i l.strikes)) × (l.i ≤ length l.strikes) × (min l.mark (length l.strikes) ≤ l.i)
-
-abbrev pub decreases-loop-i : goal.decreases-loop-i
-decreases-loop-i l = l.i
+abbrev pub invariant-loop-strike : goal.invariant-loop-strike
+invariant-loop-strike l = words l.sets ≡ put_all (words l.initial.sets) (reverse (map (λ s. s.now) l.yielded))

@@ -11,6 +11,6 @@ options_bound (w ∷ ws) fit = omega (arith, ones-le 32 w (fit 0), options_bound
 
 pub propagate-requires : goal.propagate-requires
 propagate-requires g c =
-    let accepted = c.in_default.ensures.accepted in
+    let accepted = c.in-Ok.ensures.accepted in
     let few = options_bound (words c.args.sets.now) accepted.fit in
-    record { accepted = accepted; room = omega (arith, few, accepted.few, c.in-Ok.ensures.len, c.in-Ok.ensures.capacity) }
+    record { accepted = accepted; room = omega (arith, few, accepted.few, c.in-Ok-with_capacity.ensures.len, c.in-Ok-with_capacity.ensures.capacity) }

@@ -1,12 +1,8 @@
-use Rattle.std.proofs.Common.{◌<◌, sym, ◌∙◌, subst}
+use Rattle.std.proofs.Common.{sym, ◌∙◌, subst}
 use Rattle.network.proofs.Truth.{T_yes, T_no}
 use Rattle.books.specs.Reads.{allowed}
-use Rattle.books.proofs.Walks.{waits_fall}
-use Rattle.tightening.proofs.Starting.{Kept, kept_first, kept_passes, kept_dropped, kept_end}
+use Rattle.tightening.proofs.Starting.{Kept, kept_passes, kept_dropped}
 use Rattle.tightening.proofs.start.allowed_with.Goals as goal
-
-pub loop-other-init : goal.loop-other-init
-loop-other-init g c = kept_first (allowed (g.B.Book.meaning c.args.book.now) c.args.rule c.args.option) c.args.set.word
 
 pub loop-other-preserved-then-not-allows : goal.loop-other-preserved-then-not-allows
 loop-other-preserved-then-not-allows g c =
@@ -27,15 +23,3 @@ loop-other-preserved g c =
     let b = c.in-Some.other in
     subst (λ v. Kept passes set v passing) (sym c.in-Some.ensures.after)
     (kept_passes passes set w passing b c.in-Some.ensures.least.0 (T_yes (passes b) (sym c.allows.ensures ∙ c.if-not-allows.false)) c.loop-other.invariant)
-
-pub loop-other-smaller-then-not-allows : goal.loop-other-smaller-then-not-allows
-loop-other-smaller-then-not-allows g c =
-    subst (λ w. w < c.loop-other.waiting.word) (sym c.in-Some.ensures.after) (waits_fall c.loop-other.waiting.word c.in-Some.other c.in-Some.ensures.least.0)
-
-pub loop-other-smaller : goal.loop-other-smaller
-loop-other-smaller g c =
-    subst (λ w. w < c.loop-other.waiting.word) (sym c.in-Some.ensures.after) (waits_fall c.loop-other.waiting.word c.in-Some.other c.in-Some.ensures.least.0)
-
-pub returns : goal.returns
-returns g c =
-    kept_end (allowed (g.B.Book.meaning c.args.book.now) c.args.rule c.args.option) c.args.set.word c.loop-other.waiting.word c.loop-other.passing.word c.in_default.ensures.least c.loop-other.invariant

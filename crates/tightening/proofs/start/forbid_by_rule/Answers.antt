@@ -3,12 +3,8 @@ use Rattle.network.specs.Network.{has, words, rule_at}
 use Rattle.network.proofs.Bits.{has_below}
 use Rattle.network.proofs.Words.{length_words, word_of}
 use Rattle.books.specs.Reads.{allowed}
-use Rattle.books.proofs.Walks.{waits_fall}
 use Rattle.tightening.proofs.Starting.{PartWay, part_way_two, part_way_start, part_way_end, part_way_step, keep_tells, ends_told}
 use Rattle.tightening.proofs.start.forbid_by_rule.Goals as goal
-
-pub overflow_cast-fields : goal.overflow_cast-fields
-overflow_cast-fields g c = omega (arith, c.requires.accepted.few, length_words c.args.sets.now)
 
 pub bounds-sets-ends : goal.bounds-sets-ends
 bounds-sets-ends g c =
@@ -31,7 +27,7 @@ loop-option-init g c =
     let y = c.ends-ends.result.right in
     let ends = ends_told rules (words sets) k ok c.requires.rule (length sets) x y (length_words sets) c.ends-ends.ensures.left c.ends-ends.ensures.right in
     let waits : get_or (words sets) (rule_at rules k).left 0 ≡ (get_or sets x (record { word = 0 })).word = ap (λ z. get_or (words sets) z 0) (sym ends.left) ∙ word_of sets x (record { word = 0 }) ends.left_is_field in
-    subst (λ w. PartWay rules (words sets) k (length sets) pairs w pairs) waits (part_way_start rules (words sets) k (length sets) pairs (length_words sets) c.requires.rule c.requires.pairs)
+    subst (λ w. PartWay rules (words sets) k (length sets) w pairs) waits (part_way_start rules (words sets) k (length sets) pairs (length_words sets) c.requires.rule c.requires.pairs)
 
 pub keep_toward-requires : goal.keep_toward-requires
 keep_toward-requires g c =
@@ -50,11 +46,11 @@ keep_toward-requires g c =
         few = omega (arith, ok.few, length_words sets);
         field = ends.left_is_field;
         option = has_below 32 (get_or (words sets) (rule_at rules k).left 0) d (ok.fit (rule_at rules k).left) t;
-        room = omega (arith, c.requires.room, now.rest.long);
+        room = omega (arith, c.requires.room, c.loop-option.auto.pairs, length_words c.loop-option.pairs, length_words c.args.pairs.now);
       };
       other = ends.right_is_field;
       apart = ends.apart;
-      pairs = part_way_two rules (words sets) k (length sets) (words c.args.pairs.now) c.loop-option.waiting.word (words c.loop-option.pairs) now;
+      pairs = part_way_two rules (words sets) k (length sets) c.loop-option.waiting.word (words c.loop-option.pairs) now;
     }
 
 pub loop-option-preserved : goal.loop-option-preserved
@@ -63,9 +59,8 @@ loop-option-preserved g c =
     let k = c.args.rule in
     let ok = c.requires.accepted in
     let sets = c.args.sets.now in
-    let first = words c.args.pairs.now in
     let pairs = words c.loop-option.pairs in
-    let left = words c.keep_toward.new.pairs in
+    let left = words c.keep_toward.new.words in
     let x = c.ends-ends.result.left in
     let y = c.ends-ends.result.right in
     let ends = ends_told rules (words sets) k ok c.requires.rule (length sets) x y (length_words sets) c.ends-ends.ensures.left c.ends-ends.ensures.right in
@@ -76,18 +71,10 @@ loop-option-preserved g c =
     let small : d < 32 = has_below 32 (get_or (words sets) (rule_at rules k).left 0) d (ok.fit (rule_at rules k).left) (c.loop-option.invariant.of_set d h) in
     let across : (get_or sets y (record { word = 0 })).word ≡ get_or (words sets) (rule_at rules k).right 0 = sym (word_of sets y (record { word = 0 }) ends.right_is_field) ∙ ap (λ z. get_or (words sets) z 0) ends.right in
     let told = keep_tells rules (words sets) k ok c.requires.rule d keep small (λ b. c.allowed_with-keep.ensures b ∙ ap (λ v. has v b && allowed rules k d b) across) in
-    subst (λ v. PartWay rules (words sets) k (length sets) first v left) (sym c.in-Some.ensures.after)
-    (part_way_step rules (words sets) k (length sets) first pairs left w d x y keep h ends.left ends.right told c.keep_toward.ensures.leaves c.loop-option.invariant)
-
-pub loop-option-smaller : goal.loop-option-smaller
-loop-option-smaller g c =
-    subst (λ w. w < c.loop-option.waiting.word) (sym c.in-Some.ensures.after) (waits_fall c.loop-option.waiting.word c.in-Some.option c.in-Some.ensures.least.0)
+    subst (λ v. PartWay rules (words sets) k (length sets) v left) (sym c.in-Some.ensures.after)
+    (part_way_step rules (words sets) k (length sets) pairs left w d x y keep h ends.left ends.right told c.keep_toward.ensures.leaves c.loop-option.invariant)
 
 pub returns : goal.returns
 returns g c =
-    let rules = g.B.Book.meaning c.args.book.now in
     let sets = c.args.sets.now in
-    record {
-      pairs = part_way_end rules (words sets) c.args.rule (length sets) (words c.args.pairs.now) c.loop-option.waiting.word (words c.loop-option.pairs) (length_words sets) c.requires.rule c.in_default.ensures.least c.loop-option.invariant;
-      rest = c.loop-option.invariant.rest;
-    }
+    part_way_end (g.B.Book.meaning c.args.book.now) (words sets) c.args.rule (length sets) c.loop-option.waiting.word (words c.loop-option.pairs) (length_words sets) c.requires.rule c.in_default.ensures.least c.loop-option.invariant

@@ -5,7 +5,7 @@ use Rattle.tightening.proofs.start.forbid_by_rule.Given as goal
 
 abbrev pub invariant-loop-option : goal.invariant-loop-option
 invariant-loop-option g l =
-    PartWay (g.B.Book.meaning l.book) (words l.sets) l.rule (length l.sets) (words l.initial.pairs) l.waiting.word (words l.pairs)
+    PartWay (g.B.Book.meaning l.book) (words l.sets) l.rule (length l.sets) l.waiting.word (words l.pairs)
 
 abbrev pub decreases-loop-option : goal.decreases-loop-option
 decreases-loop-option g l = l.waiting.word

@@ -1,55 +1,56 @@
-use Rattle.std.proofs.Common.{◌≡◌, length, sym, refl, ap, ◌∙◌, subst, arith}
-use Rattle.std.proofs.lemmas.Bool.{both_ways}
-use Rattle.network.specs.Network.{part, words}
+use Rattle.std.proofs.Common.{◌≡◌, ℕ, T, List, length, get_or, sym, refl, ap, ◌∙◌, subst, rules}
+use Rattle.network.specs.Network.{Rule, part, words}
+use Rattle.network.specs.declared.options.OptionSet.{OptionSet}
 use Rattle.network.proofs.Words.{length_words}
+use Rattle.agenda.specs.Waiting.{Waiting}
 use Rattle.books.specs.Pairs.{pairs_of}
-use Rattle.propagation.specs.Progress.{Filled}
-use Rattle.tightening.specs.Start.{StayBeyond}
+use Rattle.tightening.specs.Probes.{probes_of}
+use Rattle.tightening.specs.Start.{Standing}
 use Rattle.tightening.specs.Tightening.{Tightest}
 use Rattle.tightening.specs.Underway.{Between}
-use Rattle.tightening.proofs.Turning.{beyond_then, still_room}
-use Rattle.tightening.proofs.Finishing.{between_start, only_options}
+use Rattle.tightening.proofs.Sets.{all_empty}
+use Rattle.tightening.proofs.Finishing.{between_start, at_err, at_ok}
 use Rattle.tightening.proofs.tighten.tighten_copy.Goals as goal
 
-pub put_probes-requires : goal.put_probes-requires
-put_probes-requires g c =
-    record { few = omega (arith, c.requires.accepted.few, length_words c.args.sets.now); options = only_options _ (words c.args.sets.now) c.requires.accepted; same = refl }
+-- at the start, by the copy
+begun_by : (rules : List Rule) (sets copy : List OptionSet) (pairs : List ℕ) (w : Waiting) → copy ≡ sets → Standing rules (words sets) pairs → ((x a : ℕ) → T (part (words sets) x a) → T (probes_of w x a))
+    → Between rules (words sets) (length copy) (words copy) pairs w
+begun_by rules sets copy pairs w same s all =
+    subst (λ l. Between rules (words sets) (length l) (words l) pairs w) (sym same)
+    (subst (λ n. Between rules (words sets) n (words sets) pairs w) (length_words sets) (between_start rules (words sets) pairs w s all))
 
-pub probe_all-requires : goal.probe_all-requires
-probe_all-requires g c =
+pub probe_all-requires-clause-begun : goal.probe_all-requires-clause-begun
+probe_all-requires-clause-begun g c =
     let rules = g.B.Book.meaning c.args.book.now in
     let sets = c.args.sets.now in
-    let copy = c.args.copy.now in
     let pairs = words c.stand_at_start.new.pairs in
-    let w = g.V.Agenda.waiting c.put_probes.new.probes in
-    let same : copy ≡ sets = c.requires.copied in
-    let start = between_start rules (words sets) pairs w c.stand_at_start.ensures.pairs c.put_probes.ensures.all in
-    record {
-      few = omega (arith, ap length same, c.requires.accepted.few, length_words sets);
-      trial = c.requires.trial ∙ sym (ap length same);
-      room = still_room (length sets) (length copy) _ pairs (ap length same) c.stand_at_start.ensures.rest c.requires.room;
-      strikes = c.requires.strikes;
-      filled = subst (λ l. Filled (words l)) (sym same) c.requires.accepted.filled;
-      only = c.put_probes.ensures.put.only (λ k h. absurd (both_ways _ (c.clear.ensures.waiting k) h));
-      begun = (rules, (words sets, subst (λ l. Between rules (words sets) (length l) (words l) pairs w) (sym same) (subst (λ n. Between rules (words sets) n (words sets) pairs w) (length_words sets) start)));
-    }
+    let same : c.args.copy.now ≡ sets = c.requires.copied in
+    let begun = begun_by rules sets c.args.copy.now pairs (g.V.Agenda.waiting c.put_probes.new.probes) same c.stand_at_start.ensures c.put_probes.ensures.all in
+    (rules, (words sets, begun))
+
+pub returns-then-is_err : goal.returns-then-is_err
+returns-then-is_err g c =
+    let rules = g.B.Book.meaning c.args.book.now in
+    let sets = c.args.sets.now in
+    let pairs = words c.stand_at_start.new.pairs in
+    let same : c.args.copy.now ≡ sets = c.requires.copied in
+    let begun = begun_by rules sets c.args.copy.now pairs (g.V.Agenda.waiting c.put_probes.new.probes) same c.stand_at_start.ensures c.put_probes.ensures.all in
+    let out = at_err c.probe_all.result (sym c.is_err.ensures.value ∙ c.if-is_err.true) c.probe_all.ensures.emptied rules (words sets) begun in
+    let zeros = c.fill.ensures.after (λ y h. search rules) in
+    rw c.into.ensures (refl, (out, λ i. ap (λ l. get_or (words l) i 0) zeros ∙ all_empty _ i c.empty.result c.empty.ensures))
 
 pub returns : goal.returns
 returns g c =
     let rules = g.B.Book.meaning c.args.book.now in
     let sets = c.args.sets.now in
-    let copy = c.args.copy.now in
     let pairs = words c.stand_at_start.new.pairs in
-    let pairs' = words c.probe_all.new.pairs in
-    let w = g.V.Agenda.waiting c.put_probes.new.probes in
-    let same : copy ≡ sets = c.requires.copied in
-    let start = between_start rules (words sets) pairs w c.stand_at_start.ensures.pairs c.put_probes.ensures.all in
-    let begun : Between rules (words sets) (length copy) (words copy) pairs w =
-    subst (λ l. Between rules (words sets) (length l) (words l) pairs w) (sym same) (subst (λ n. Between rules (words sets) n (words sets) pairs w) (length_words sets) start) in
-    record {
-      length = c.probe_all.ensures.length ∙ ap length same;
-      rest = beyond_then (length sets) _ pairs pairs' c.stand_at_start.ensures.rest (subst (λ l. StayBeyond (length l) pairs pairs') same c.probe_all.ensures.rest);
-      filled = c.probe_all.ensures.filled;
-      tightest = λ yes. subst (λ l. Tightest rules (words sets) (part (words c.probe_all.new.sets)) (pairs_of (length l) pairs')) same (c.probe_all.ensures.tightest yes rules (words sets) begun);
-      emptied = λ no. c.probe_all.ensures.emptied no rules (words sets) begun;
-    }
+    let same : c.args.copy.now ≡ sets = c.requires.copied in
+    let begun = begun_by rules sets c.args.copy.now pairs (g.V.Agenda.waiting c.put_probes.new.probes) same c.stand_at_start.ensures c.put_probes.ensures.all in
+    let done = sym c.is_err.ensures.value ∙ c.if-is_err.false in
+    let last = c.probe_all.new.self in
+    let copy_is = c.copy-1.given.1.1 (sym c.probe_all.ensures.sets) in
+    let pairs_are = c.pairs-2-1.given.1.1 (sym c.probe_all.ensures.pairs) in
+    let long : length (words last.sets.now) ≡ length (words sets) = length_words last.sets.now ∙ c.probe_all.ensures.length ∙ ap length same ∙ sym (length_words sets) in
+    let filled = at_ok c.probe_all.result done c.probe_all.ensures.filled in
+    let tight = at_ok c.probe_all.result done c.probe_all.ensures.tightest rules (words sets) begun in
+    rw (copy_is, pairs_are) (long, (filled, subst (λ k. Tightest rules (words sets) (part (words last.sets.now)) (pairs_of k (words last.pairs.now))) (ap length same ∙ sym (length_words sets)) tight))

@@ -3,4 +3,4 @@ use Rattle.agenda.proofs.NumberSets.{numbers_insert}
 use Rattle.agenda.proofs.numbers.NumberSet.insert.Goals as goal
 
 pub returns : goal.returns
-returns c = numbers_insert c.args.self.now.words c.args.number (omega arith)
+returns c = numbers_insert c.args.self.now.words c.args.number.value (omega arith)

@@ -3,4 +3,4 @@ use Rattle.agenda.proofs.NumberSets.{numbers_remove}
 use Rattle.agenda.proofs.numbers.NumberSet.remove.Goals as goal
 
 pub returns : goal.returns
-returns c = numbers_remove c.args.self.now.words c.args.number (omega arith)
+returns c = numbers_remove c.args.self.now.words c.args.number.value (omega arith)

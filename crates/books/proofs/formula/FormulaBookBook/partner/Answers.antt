@@ -1,27 +1,14 @@
-use Rattle.std.proofs.Common.{◌&&◌, sym, refl, ap, ◌∙◌}
-use Rattle.network.specs.Network.{has}
-use Rattle.books.specs.Reads.{allowed_on}
-use Rattle.books.specs.Formula.{formula_rule, formula_rules}
-use Rattle.books.proofs.Asked.{allowed_on_by, none_allowed}
-use Rattle.books.proofs.Walks.{found_lowest, found_none}
+use Rattle.books.specs.Reads.{permits_on}
+use Rattle.books.specs.Formula.{formula_rule}
+use Rattle.books.proofs.Found.{found_lowest}
+use Rattle.books.proofs.Partners.{no_partner, partner_by}
 use Rattle.books.proofs.formula.FormulaBookBook.partner.Goals as goal
 
-pub returns-in-Some : goal.returns-in-Some
-returns-in-Some c =
-    let rules = formula_rules c.args.self.now.rules.now in
-    let w = c.args.set.word in
-    record {
-      same = refl;
-      found = found_lowest (allowed_on rules c.args.side c.args.rule c.args.option) w c.partners.result.word
-          (λ b. c.partners.ensures b ∙ ap (λ x. has w b && x) (sym (allowed_on_by rules c.args.rule (formula_rule c.in-Some.found) c.in-Some.ensures c.args.side c.args.option b)))
-          c.lowest.result c.lowest.ensures.least;
-    }
+pub returns-in_err-record_of-clause-found : goal.returns-in_err-record_of-clause-found
+returns-in_err-record_of-clause-found c = no_partner _ _ _ _ _ c.in_err-record_of.ensures _ c.from_residual.ensures
 
-pub returns-in-None : goal.returns-in-None
-returns-in-None c =
-    let rules = formula_rules c.args.self.now.rules.now in
-    record {
-      same = refl;
-      found = found_none (allowed_on rules c.args.side c.args.rule c.args.option) c.args.set.word
-          (none_allowed rules c.args.rule c.in-None.ensures c.args.side c.args.option);
-    }
+pub returns-clause-found : goal.returns-clause-found
+returns-clause-found c =
+    let rule = formula_rule c.in_ok-record_of.field-0 in
+    partner_by _ _ rule c.in_ok-record_of.ensures c.args.arc.side c.args.option c.args.set.word c.lowest.result
+    (found_lowest (permits_on rule c.args.arc.side c.args.option) c.args.set.word c.partners.result.word c.partners.ensures c.lowest.result c.lowest.ensures.least)

@@ -1,36 +1,11 @@
-use Rattle.std.proofs.Common.{◌++◌, sym, refl, ap}
-use Rattle.books.specs.Reads.{allowed_on}
-use Rattle.books.proofs.Asked.{allowed_on_like, none_allowed}
-use Rattle.books.proofs.Walks.{found_like, found_none}
+use Rattle.books.proofs.Partners.{no_partner, partner_like}
 use Rattle.books.proofs.joined.JoinedBook.partner.Goals as goal
 
-pub returns-in-First : goal.returns-in-First
-returns-in-First g c =
-    let xs = g.F.Book.meaning c.args.self.now.first in
-    let ys = g.S.Book.meaning c.args.self.now.second in
-    record {
-      same = ap (λ zs. zs ++ ys) c.partner.ensures.same;
-      found = found_like (allowed_on xs c.args.side c.in-First.own c.args.option) (allowed_on (xs ++ ys) c.args.side c.args.rule c.args.option) c.args.set.word
-          (λ b t. sym (allowed_on_like (xs ++ ys) xs c.args.rule c.in-First.own c.in-First.ensures c.args.side c.args.option b))
-          c.partner.result c.partner.ensures.found;
-    }
+pub returns-in_err-rule-clause-found : goal.returns-in_err-rule-clause-found
+returns-in_err-rule-clause-found g c = no_partner _ _ _ _ _ c.in_err-rule.ensures _ c.from_residual.ensures
 
-pub returns-in-Second : goal.returns-in-Second
-returns-in-Second g c =
-    let xs = g.F.Book.meaning c.args.self.now.first in
-    let ys = g.S.Book.meaning c.args.self.now.second in
-    record {
-      same = ap (λ zs. xs ++ zs) c.partner-in-Second.ensures.same;
-      found = found_like (allowed_on ys c.args.side c.in-Second.own c.args.option) (allowed_on (xs ++ ys) c.args.side c.args.rule c.args.option) c.args.set.word
-          (λ b t. sym (allowed_on_like (xs ++ ys) ys c.args.rule c.in-Second.own c.in-Second.ensures c.args.side c.args.option b))
-          c.partner-in-Second.result c.partner-in-Second.ensures.found;
-    }
+pub returns-in-First-clause-found : goal.returns-in-First-clause-found
+returns-in-First-clause-found g c = partner_like _ _ _ _ (rw c.in-First.is at c.in_ok-rule.ensures) _ _ _ _ c.partner.ensures.found
 
-pub returns-in-Nowhere : goal.returns-in-Nowhere
-returns-in-Nowhere g c =
-    let rules = g.F.Book.meaning c.args.self.now.first ++ g.S.Book.meaning c.args.self.now.second in
-    record {
-      same = refl;
-      found = found_none (allowed_on rules c.args.side c.args.rule c.args.option) c.args.set.word
-          (none_allowed rules c.args.rule c.in-Nowhere.ensures c.args.side c.args.option);
-    }
+pub returns-in-Second-clause-found : goal.returns-in-Second-clause-found
+returns-in-Second-clause-found g c = partner_like _ _ _ _ (rw c.in-Second.is at c.in_ok-rule.ensures) _ _ _ _ c.partner-in-Second.ensures.found

@@ -1,6 +1,7 @@
 use Rattle.std.proofs.Common.{◌≡◌, ℕ, ◌+◌, ◌-◌, ◌*◌, ◌^◌, ◌≤◌, ◌⊎◌, length, None, sym, ap, ◌∙◌, inl, inr, arith}
 use Rattle.std.proofs.lemmas.Bool.{cond-true, cond-false, ne_eqb, lt-ltb, cases_lt}
-use Rattle.catalogue.specs.Content.{answer, outcome, row_refusal, with_row}
+use Rattle.propagation.specs.Refusals.{answer}
+use Rattle.catalogue.specs.Content.{outcome, row_refusal, with_row}
 use Rattle.catalogue.specs.View.{content}
 use Rattle.catalogue.proofs.Fronts.{replaced_at}
 use Rattle.catalogue.proofs.preparation.Preparation.set_row.Goals as goal

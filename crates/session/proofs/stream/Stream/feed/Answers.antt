@@ -1,6 +1,6 @@
 use Rattle.std.proofs.Common.{◌≡◌, [], ◌∷◌, ◌++◌, take, sym, refl, ap, ◌∙◌, inl, inr}
 use Rattle.session.specs.Pending.{kept}
-use Rattle.session.proofs.Reach.{reach_again, reach_more}
+use Rattle.session.proofs.Reach.{reach_more}
 use Rattle.session.proofs.stream.Stream.feed.Goals as goal
 
 pub returns-then-byte-ne10 : goal.returns-then-byte-ne10
@@ -9,7 +9,7 @@ returns-then-byte-ne10 c line e =
     inr (inl (
       c.if-byte-ne10.true,
       record {
-        room = c.if-out-lt-LINE_BYTES.false;
+        room = c.in_ok-check_room.ensures;
         answer = refl;
         buffer = refl;
         session = refl;
@@ -21,8 +21,7 @@ pub returns : goal.returns
 returns c line e =
     let b = c.args.byte in
     let pushed : kept c.push.new.self ≡ take 34 (line ++ b ∷ []) = c.push.ensures ∙ ap (λ l. take 34 (l ++ b ∷ [])) (sym e) ∙ reach_more 34 line b in
-    let start : take 34 (line ++ b ∷ []) ≡ take 34 c.as_slice.result.now = sym (ap (take 34) (c.as_slice.ensures ∙ pushed) ∙ reach_again 34 (line ++ b ∷ [])) in
     inr (inr (
       c.if-byte-ne10.false,
-      record { room = c.if-out-lt-LINE_BYTES.false; answer = c.exchange-answered.ensures (line ++ b ∷ []) start; pending = c.clear.ensures },
+      record { room = c.in_ok-check_room.ensures; answer = c.end_line.ensures.answer (line ++ b ∷ []) (sym pushed); pending = c.end_line.ensures.pending },
     ))

@@ -1,33 +1,28 @@
-use Rattle.std.proofs.Common.{drop, sym, ap, ◌∙◌, arith}
-use Rattle.agenda.specs.Sequence.{among, first_of}
+use Rattle.std.proofs.Common.{drop, sym, refl, ap, arith}
+use Rattle.agenda.specs.Sequence.{first_of}
+use Rattle.agenda.specs.Ring.{around}
 use Rattle.agenda.specs.Lined.{line}
-use Rattle.agenda.proofs.Places.{no_line, take_first, take_rest, take_taken, take_below, take_marked, take_once}
+use Rattle.agenda.proofs.Places.{take_ring, take_taken, take_below, take_marked}
 use Rattle.agenda.proofs.first.line.FirstComeAgenda.take.Goals as goal
 
 pub returns-then-self-eq0 : goal.returns-then-self-eq0
-returns-then-self-eq0 c =
-    let none = no_line c.args.self.now c.if-self-eq0.true in
-    record {
-      taken = (λ k. ap (λ l. among l k) none, λ k. ap (λ l. among l k) none);
-      answer = sym (ap first_of none);
-      order = none ∙ sym (ap (drop 1) none);
-    }
+unfolding line around
+returns-then-self-eq0 c = let none = c.if-self-eq0.true in rw none (record { taken = (λ k. refl, λ k. refl); answer = refl; order = refl })
 
 pub overflow_cast-number : goal.overflow_cast-number
 overflow_cast-number c = let h = take_below c.args.self.now c.if-self-eq0.false (omega arith) in omega arith
 
-pub remove-requires : goal.remove-requires
-remove-requires c = take_below c.args.self.now c.if-self-eq0.false (omega arith)
+pub invariant_of-number : goal.invariant_of-number
+invariant_of-number c = record { below = take_below c.args.self.now c.if-self-eq0.false (omega arith) }
 
 pub invariant_of-self : goal.invariant_of-self
 invariant_of-self c =
-    let f = c.args.self.now in
-    let some = c.if-self-eq0.false in
-    record { within = omega arith; marked = take_marked f some c.remove.new.self c.remove.ensures; once = take_once f some }
+    let marked = take_marked c.args.self.now c.if-self-eq0.false c.remove.new.self c.remove.ensures in
+    record { within = omega arith; marked = marked.0; once = marked.1 }
 
 pub returns : goal.returns
 unfolding line
 returns c =
     let f = c.args.self.now in
     let some = c.if-self-eq0.false in
-    record { taken = take_taken f some; answer = take_first f some; order = take_rest f some }
+    record { taken = take_taken f some; answer = sym (ap first_of (take_ring f some)); order = sym (ap (drop 1) (take_ring f some)) }

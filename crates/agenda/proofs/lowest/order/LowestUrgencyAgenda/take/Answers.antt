@@ -7,7 +7,7 @@ pub returns : goal.returns
 returns c =
     let u = urgencies_of c.args.self.now in
     let u' = urgencies_of c.withdraw.new.self in
-    let n = c.in_ok-number.number in
+    let n = c.in_ok-number.number.value in
     let foremost = c.in_ok-number.ensures in
     let out = c.withdraw.ensures in
     record {

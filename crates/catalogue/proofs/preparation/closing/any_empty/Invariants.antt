@@ -1,6 +1,0 @@
-use Rattle.std.proofs.Common.{◌≡◌, eqb, drop}
-use Rattle.catalogue.specs.Content.{any}
-use Rattle.catalogue.proofs.preparation.closing.any_empty.Given as goal
-
-abbrev pub invariant-loop-set : goal.invariant-loop-set
-invariant-loop-set l = any (λ s. eqb s.word 0) (drop l.set-index l.sets) ≡ any (λ s. eqb s.word 0) l.sets
