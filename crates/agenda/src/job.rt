@@ -27,7 +27,7 @@ pub trait Job: Sized {
     fn to_number(self) -> Option<u16>
         ensures { result ≡ (if fits self then Some (number self) else None) };
 
-    // The job that a number stands for, none from the limit on. Each kind tests the limit itself: with one test in the
+    // The job that a number stands for, none from the limit on; an option, as above. Each kind tests the limit itself: with one test in the
     // trait, each kind would have to say besides what it makes of numbers past its limit.
     fn of_number(n: u16) -> Option<Self>
         ensures { result ≡ (if nat_lt n LIMIT then Some (job n) else None) };
@@ -124,7 +124,8 @@ impl Job for Probe {
     }
 }
 
-// Lets a job wait and answers yes; one that does not fit its kind changes nothing, and the answer is no.
+// Lets a job wait and answers yes; one that does not fit its kind changes nothing, and the answer is no. Yes or no, by a
+// rule of the project, as an agenda's own `put` answers.
 pub fn put_job<J: Job, W: Agenda>(agenda: &mut W, job: J, urgency: u8) -> bool
     ensures answer { result ≡ J.Job.fits job }
     ensures waiting { Same (put_job (W.Agenda.waiting agenda.old) (J.Job.fits job) (J.Job.number job)) (W.Agenda.waiting agenda.new) }

@@ -13,7 +13,7 @@ pub struct Number {
 }
 
 impl Number {
-    // The number, none from the limit on.
+    // The number, none from the limit on. An option says all: TryFrom would need an error type for the same.
     pub fn new(value: u16) -> Option<Number>
         ensures { MatchOption result (number_limit ≤ value) (λ n. n.value ≡ value) }
     {

@@ -21,7 +21,7 @@ use std::alloc::{AllocError, Global};
 #[cfg(test)]
 mod tests;
 
-// Why a settle tells no number of strikes.
+// Why a settle tells no number of strikes. It is not the error of a tightening, which cannot be wiped out.
 #[derive(Clone, Copy, PartialEq, Eq, Debug)]
 pub enum SettleError {
     // the sets cannot be opened over the rules

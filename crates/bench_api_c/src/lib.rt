@@ -12,7 +12,7 @@ use network::options::OptionSet;
 use network::rules::Ends;
 use std::alloc::Global;
 
-// What stands for a settle that was wiped out, and, with the refusal number added, for one that was refused; alone it
+// The C interface needs numbers here. What stands for a settle that was wiped out, and, with the refusal number added, for one that was refused; alone it
 // stands for want of memory.
 const WIPED_OUT: u32 = u32::MAX;
 

@@ -72,7 +72,7 @@ impl<B: Book> Remembering<B> {
     }
 }
 
-// The place of a residue in the table.
+// The place of a residue in the table. A side has its number by a match, as in the number of an arc: it is one line.
 fn residue_place(arc: Arc, option: u8) -> usize
     ensures { result ≡ residue_place arc.side arc.rule option }
 {

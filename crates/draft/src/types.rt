@@ -10,7 +10,8 @@ pub struct Taken {
     pub mark: usize,
 }
 
-// One call on a draft. A choose or an exclude is no `Decision` yet: it may be refused.
+// One call on a draft. A choose or an exclude is no `Decision` yet, since it may be refused; and a line's frame is another
+// type, since most frames are no calls.
 #[derive(Clone, Copy, PartialEq, Eq, Debug)]
 pub enum Call {
     // leave only the option standing in the field

@@ -132,7 +132,8 @@ pub struct FormulaRule {
 }
 
 impl FormulaRule {
-    // The two fields that the rule stands between: a part of it, so no conversion.
+    // The two fields that the rule stands between: a part of it, so no conversion. A record is handed in with its four
+    // values side by side, by a rule of the project, so it does not hold them as `Ends`.
     pub fn ends(self) -> Ends
         ensures left { result.left ≡ self.left }
         ensures right { result.right ≡ self.right }

@@ -46,7 +46,8 @@ pub fn list_ends<'a, B: Book>(book: &B, table: &'a mut [Ends; RULES as usize]) -
     listed
 }
 
-// Rule, side and ends come one by one, here and below: the loops have them so, and an arc is made only to be put.
+// Rule, side and ends come one by one, here and below: the loops have them so. Sets, ends and agenda are lent for one call
+// and have three owners, so no struct holds them.
 // Lets the arc on that side of a rule with these ends wait: the fewer options stand in its field, the more urgent.
 fn put_arc<W: Agenda>(sets: &[OptionSet], agenda: &mut W, rule: u8, side: Side, ends: Ends)
     requires rule { rule < rule_limit }

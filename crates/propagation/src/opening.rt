@@ -12,7 +12,7 @@ use faults::EngineFault;
 use network::options::OptionSet;
 use network::rules::{FIELDS, RULES};
 
-// Whether some set has no option. Sets that were all looked at are known to fit.
+// Whether some set has no option. Sets that were all looked at are known to fit, which only the word of each tells.
 pub fn any_empty(sets: &[OptionSet]) -> bool
     ensures answer { result ≡ any empty (words sets.now) }
     ensures fit { result ≡ false → Fit (words sets.now) }

@@ -60,6 +60,8 @@ impl Standing<'_> {
 // Only the arc back along the same rule need not be: an option that was struck was nobody's partner under that rule.
 // So when nothing waits, what stands is an arc-consistent part, and holds every other: it is the largest. If a field
 // becomes empty, it is empty in the largest part too. It ends, since each turn strikes an option or leaves one arc fewer.
+//
+// That nothing waits afterwards is said by each call that works through an agenda: the agenda is the caller's.
 pub fn propagate<B: Book, W: Agenda>(
     sets: &mut [OptionSet],
     book: &mut B,

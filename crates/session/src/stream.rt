@@ -29,7 +29,7 @@ impl<'a> Stream<'a> {
         }
     }
 
-    // Takes one byte, and writes the answer where it ends a line.
+    // Takes one byte, and writes the answer where it ends a line. No answer is 0 bytes, here and below.
     // What is kept of a line is said here and below of every whole line: nobody holds that line, so no type can say it.
     pub fn feed(&mut self, byte: u8, out: &mut [u8]) -> Result<usize, FrameFault>
         ensures { (line : List ℕ) → take line_reach line ≡ kept self.old.line → Fed self.old line byte out.old result out.new self.new }

@@ -50,7 +50,8 @@ impl From<AllocError> for Untightened {
     }
 }
 
-// Checks whether sets can be tightened over a book with so many pair words, and tells the first reason why not.
+// Checks whether sets can be tightened over a book with so many pair words, and tells the first reason why not. The number
+// of fields is looked at first, and by `check_opening` again: the words come second, and are counted by it.
 pub fn check_tightening<B: Book>(
     book: &B,
     sets: &[OptionSet],

@@ -27,7 +27,8 @@ impl FirstCome {
 impl Agenda for FirstCome {
     ghost waiting = { λ f. among (line f) };
 
-    // The number waits behind all others; one that waits already keeps its place. The urgency does not matter.
+    // The number waits behind all others; one that waits already keeps its place. The urgency does not matter. The trait's
+    // clauses are said again, since a clause is added to them.
     fn put(&mut self, number: u16, _urgency: u8) -> bool
         ensures answer { result ≡ nat_lt number number_limit }
         ensures waiting { Same (put_number (among (line self.old)) number) (among (line self.new)) }

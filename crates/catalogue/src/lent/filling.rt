@@ -63,7 +63,8 @@ impl<'a, T: Copy> LentVec<'a, T> {
         if count > self.room() {
             return false;
         }
-        // `fill` asks for a clone that cannot fail, which the bound does not promise.
+        // `fill` asks for a clone that cannot fail, which the bound does not promise; and a loop over the places would say
+        // again what `push` does.
         for _i in 0..count {
             let _ = self.push(value);
         }

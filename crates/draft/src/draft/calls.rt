@@ -2,7 +2,8 @@
 //
 // Field and option stay two numbers: a call is no decision yet, and `perform` takes them apart only to make the call.
 // That book and agenda stay is said of each call but a settle: it is about two states, so no type can say it.
-// Each call tests for itself what was opened: a function that lends it out by `&mut` has no clause on what it leaves.
+// Each call tests for itself what was opened: a function that lends it out by `&mut` has no clause on what it leaves, and
+// `show` is written as the others are.
 
 ghost use Rattle.std.specs.Prelude.{◌≡◌};
 ghost use Rattle.agenda.specs.Waiting.{Nothing};
