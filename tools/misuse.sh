@@ -8,14 +8,14 @@ work=$(mktemp -d) || exit 2
 trap 'rm -rf "$work"' EXIT
 
 mkdir -p "$work/crates/misuse/src"
-for crate in faults network agenda books propagation catalogue; do
+for crate in faults network books catalogue; do
     mkdir "$work/crates/$crate"
     for part in src specs proofs; do
         [ ! -d "crates/$crate/$part" ] || cp -R "crates/$crate/$part" "$work/crates/$crate/"
     done
     grep "^$crate:" crates.txt >>"$work/crates.txt"
 done
-echo 'misuse: faults network agenda books propagation catalogue' >>"$work/crates.txt"
+echo 'misuse: faults network books catalogue' >>"$work/crates.txt"
 
 compile() {
     (cd "$work/crates/misuse" && rt check) >"$work/log" 2>&1

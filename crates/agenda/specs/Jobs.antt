@@ -1,7 +1,6 @@
 -- Jobs by number, and what putting and taking a job does to an agenda.
 use Rattle.std.specs.Prelude.{◌≡◌, ℕ, zero, suc, ◌+◌, ◌*◌, ◌/◌, ◌%◌, ◌≤◌, Bool, true, cond, ◌&&◌, ◌⊎◌, Some, None, Option, nat_lt}
 use Rattle.network.specs.Network.{rule_limit, field_limit, option_limit}
-use Rattle.network.specs.Sides.{side_number}
 use Rattle.network.specs.declared.rules.Side.{Side}
 use Rattle.network.specs.declared.rules.Side.TheVariants.{Left, Right}
 use Rattle.agenda.specs.Waiting.{Waiting, with_one, Taken}
@@ -9,6 +8,10 @@ use Rattle.network.specs.declared.rules.Arc.{Arc}
 use Rattle.agenda.specs.declared.job.Probe.{Probe}
 
 -- the two arcs of rule r have the numbers 2 r, for the left side, and 2 r + 1
+abbrev pub side_number : Side → ℕ
+side_number Left = 0
+side_number Right = 1
+
 abbrev pub side_of : ℕ → Side
 side_of zero = Left
 side_of (suc _) = Right

@@ -14,7 +14,6 @@ pub trait Agenda {
     // Lets the number wait and answers yes; a number above 511 changes nothing, and the answer is no.
     // A job's urgency is the number of options that stand in its field: the fewer, the sooner it should be taken. An
     // agenda may go by it or not.
-    // A rule of the project: an agenda answers yes or no here, so it is no Result.
     fn put(&mut self, number: u16, urgency: u8) -> bool
         ensures answer { result ≡ nat_lt number number_limit }
         ensures waiting { Same (put_number (waiting self.old) number) (waiting self.new) };

@@ -13,8 +13,7 @@ mod line;
 
 // First come, first served. The numbers that wait stand in a ring of places, from the first on, each once; the marks
 // tell which they are, so that a number put again is seen at once.
-// Fixed memory: no call on a draft allocates, so the ring is an array and no queue of the library. Its places have 64
-// bits: a rule of the project.
+// Fixed memory: no call on a draft allocates, so the ring is an array of 64-bit places and no queue of the library.
 #[derive(Drop)]
 pub struct FirstCome {
     places: [u64; NUMBERS],

@@ -27,8 +27,8 @@ pub trait Job: Sized {
     fn to_number(self) -> Option<u16>
         ensures { result ≡ (if fits self then Some (number self) else None) };
 
-    // The job that a number stands for, none from the limit on. Each kind tests the limit itself: with one test in the
-    // trait, each kind would have to say besides what it makes of numbers past its limit.
+    // The job that a number stands for, none from the limit on. Each kind tests the limit itself: a shared test would
+    // need one more function, for the numbers below the limit alone, which would ask that of its callers.
     fn of_number(n: u16) -> Option<Self>
         ensures { result ≡ (if nat_lt n LIMIT then Some (job n) else None) };
 

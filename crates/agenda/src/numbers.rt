@@ -8,7 +8,7 @@ ghost use Rattle.agenda.specs.Numbered.{numbers, any_bit};
 
 use crate::number::Number;
 
-// A set of numbers up to 511, by the bits of its words. Fixed memory: an agenda never allocates, so it is an array.
+// A set of numbers up to 511, by the bits of its words.
 #[derive(Clone, Copy)]
 pub struct NumberSet {
     words: [u64; 8],

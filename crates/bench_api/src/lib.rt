@@ -15,7 +15,7 @@ use network::options::OptionSet;
 use network::rules::Ends;
 use propagation::opening::check_opening;
 use propagation::propagate::propagate;
-use propagation::record::{STRIKES, Strike, WipedOut};
+use propagation::record::{Strike, WipedOut};
 use std::alloc::{AllocError, Global};
 
 #[cfg(test)]
@@ -31,7 +31,6 @@ pub enum SettleError {
     WipedOut(WipedOut),
 }
 
-// Written by hand, here and below, since a clause names the case that `?` makes of a fault.
 impl From<EngineFault> for SettleError {
     ghost from_gives = { λ fault r. r ≡ settle_error.Refused fault };
 
@@ -69,7 +68,7 @@ pub fn settle<'a>(
 {
     let mut book = Remembering::new(TableBook::new(ends, rows));
     check_opening(&book, sets)?;
-    let mut strikes = Vec::<Strike>::with_capacity(heap, STRIKES)?;
+    let mut strikes = Vec::<Strike>::with_capacity(heap, 512)?;
     let mut agenda = FirstCome::new();
     propagate(sets, &mut book, &mut agenda, &mut strikes)?;
     Ok(strikes.len() as u32)

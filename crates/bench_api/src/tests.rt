@@ -9,8 +9,8 @@ use std::test::Fail;
 #[test]
 fn settles(rt: HostRuntime) -> Result<(), Fail> {
     let mut rows = [OptionSet::empty(); 32];
-    for (left, row) in rows.iter_mut().enumerate() {
-        *row = OptionSet::from(u32::MAX).starting_at(left as u8 + 1);
+    for left in 0..31u8 {
+        rows[left as usize] = OptionSet::from(u32::MAX).starting_at(left + 1);
     }
     let mut sets = [OptionSet::from(0b111), OptionSet::from(0b111)];
     let ends = [Ends { left: 0, right: 1 }];

@@ -3,14 +3,19 @@ use Rattle.std.specs.Prelude.{◌≡◌, ℕ, ◌+◌, ◌*◌, ◌<◌, T, List
 use Rattle.network.specs.Network.{option_limit, rule_limit, has, Rule}
 use Rattle.network.specs.declared.rules.Side.{Side}
 use Rattle.network.specs.declared.rules.Side.TheVariants.{Left, Right}
-use Rattle.network.specs.Sides.{opposite, side_number}
+use Rattle.network.specs.Sides.{opposite}
 use Rattle.books.specs.Reads.{allowed_on}
+
+-- the left side's residues come before the right side's
+abbrev pub side_number : Side → ℕ
+side_number Left = 0
+side_number Right = 1
 
 -- one for each rule, side and option
 abbrev pub residue_count : ℕ
 residue_count = rule_limit * 2 * option_limit
 
--- the place of the residue of option a on a side of rule r: the left side's come before the right side's
+-- the place of the residue of option a on a side of rule r
 abbrev pub residue_place : Side → ℕ → ℕ → ℕ
 residue_place side r a = (r * 2 + side_number side) * option_limit + a
 

@@ -3,7 +3,7 @@
 // What a book is asked:                 book::Book
 // Rules by formulas on differences:     formula::FormulaBook
 // Rules by tables:                      table::TableBook
-// Rules by pair words:                  pair::PairBook, pair::word_place
+// Rules by pair words:                  pair::PairBook
 // The rules of one book, then another:  joined::Joined
 // A book that remembers its partners:   remembering::Remembering
 #![tactic(auto)]

@@ -79,7 +79,6 @@ fn pair_ends(fields: u8, rule: u8) -> Option<Ends>
     ensures { PairEnds fields rule result }
 {
     let mut rest = rule;
-    // It counts fields, of which there is no list.
     for left in 0..fields {
         let later = fields - 1 - left;
         if rest < later {

@@ -14,7 +14,6 @@ const NOWHERE: Ends = Ends {
     right: 255,
 };
 
-// Each crate of tests has its own, beside its rules: a crate for one literal would be no plainer.
 fn rule(kind: Kind, difference: i8) -> FormulaRule {
     FormulaRule {
         left: 0,
@@ -26,6 +25,10 @@ fn rule(kind: Kind, difference: i8) -> FormulaRule {
 
 fn arc(rule: u8, side: Side) -> Arc {
     Arc { rule, side }
+}
+
+fn all() -> OptionSet {
+    OptionSet::from(u32::MAX)
 }
 
 #[test]
@@ -124,14 +127,8 @@ fn tables_and_pair_words_cut_short(rt: HostRuntime) {
     // rows for the first rule and for two options of the second
     let rows = [OptionSet::only(3); 34];
     let mut table = TableBook::new(&ends, &rows);
-    assert_eq!(rt;
-        table.partner(arc(1, Side::Left), 1, OptionSet::from(u32::MAX)),
-        Some(3)
-    );
-    assert_eq!(rt;
-        table.partner(arc(1, Side::Left), 2, OptionSet::from(u32::MAX)),
-        None
-    );
+    assert_eq!(rt; table.partner(arc(1, Side::Left), 1, all()), Some(3));
+    assert_eq!(rt; table.partner(arc(1, Side::Left), 2, all()), None);
     assert_eq!(rt;
         table.partner(arc(1, Side::Right), 3, OptionSet::from(6)),
         Some(1)
@@ -141,7 +138,7 @@ fn tables_and_pair_words_cut_short(rt: HostRuntime) {
         None
     );
 
-    let words = [OptionSet::from(u32::MAX); 513];
+    let words = [all(); 513];
     let mut pairs = PairBook::new(17, &words);
     assert_eq!(rt; pairs.count(), 120);
     assert_eq!(rt;
@@ -153,14 +150,8 @@ fn tables_and_pair_words_cut_short(rt: HostRuntime) {
     );
     assert_eq!(rt; pairs.ends(120), NOWHERE);
     // field 1 has one word only, that of its option 0 towards field 0
-    assert_eq!(rt;
-        pairs.partner(arc(0, Side::Left), 5, OptionSet::from(u32::MAX)),
-        Some(0)
-    );
-    assert_eq!(rt;
-        pairs.partner(arc(0, Side::Right), 1, OptionSet::from(u32::MAX)),
-        None
-    );
+    assert_eq!(rt; pairs.partner(arc(0, Side::Left), 5, all()), Some(0));
+    assert_eq!(rt; pairs.partner(arc(0, Side::Right), 1, all()), None);
 }
 
 #[test]
@@ -170,25 +161,13 @@ fn layers_over_books(rt: HostRuntime) {
     let joined = Joined::new(FormulaBook::new(&first), FormulaBook::new(&second));
     let mut book = Remembering::new(joined);
     assert_eq!(rt; book.count(), 2);
-    assert_eq!(rt;
-        book.partner(arc(1, Side::Left), 0, OptionSet::from(u32::MAX)),
-        Some(1)
-    );
+    assert_eq!(rt; book.partner(arc(1, Side::Left), 0, all()), Some(1));
     assert_eq!(rt;
         book.partner(arc(1, Side::Left), 0, OptionSet::from(4)),
         Some(2)
     );
     // the residue is told, though a lower option would do
-    assert_eq!(rt;
-        book.partner(arc(1, Side::Left), 0, OptionSet::from(u32::MAX)),
-        Some(2)
-    );
-    assert_eq!(rt;
-        book.partner(arc(1, Side::Right), 2, OptionSet::from(u32::MAX)),
-        Some(0)
-    );
-    assert_eq!(rt;
-        book.partner(arc(0, Side::Left), 0, OptionSet::from(u32::MAX)),
-        Some(0)
-    );
+    assert_eq!(rt; book.partner(arc(1, Side::Left), 0, all()), Some(2));
+    assert_eq!(rt; book.partner(arc(1, Side::Right), 2, all()), Some(0));
+    assert_eq!(rt; book.partner(arc(0, Side::Left), 0, all()), Some(0));
 }

@@ -37,7 +37,7 @@ no_option = record { word = 0 }
 
 -- the two ends are one, or one of them is above 15
 abbrev pub unfit_ends : ℕ → ℕ → Bool
-unfit_ends = no_fields field_limit
+unfit_ends left right = left == right || (nat_le field_limit left || nat_le field_limit right)
 
 abbrev pub unknown : Kind → Bool
 unknown Equal = false

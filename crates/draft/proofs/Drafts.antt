@@ -2,11 +2,12 @@
 use Rattle.std.proofs.Common.{◌≡◌, ℕ, ◌+◌, ◌-◌, ◌^◌, ◌<◌, ◌≤◌, true, false, eqb, leb, List, [], ◌∷◌, ◌++◌, length, get_or, take, drop, set, is_ok, Ok, vec_items, vec_len, sym, refl, ap, ◌∙◌, subst, ⊎_elim, arith}
 use Rattle.std.proofs.lemmas.Nat.{pow_pos}
 use Rattle.std.proofs.lemmas.List.{length-append, length-take-le}
-use Rattle.std.proofs.lemmas.Bool.{cases_Bool, and_from, both_ways, le-leb, eqb-false}
+use Rattle.std.proofs.lemmas.Bool.{cases_Bool, and_from, both_ways, le-leb, eqb-true, eqb-false}
 use Rattle.network.specs.Network.{Rule, has, part}
 use Rattle.network.specs.declared.options.OptionSet.{OptionSet}
 use Rattle.network.specs.Sets.{set_without}
 use Rattle.network.proofs.Truth.{T_yes}
+use Rattle.network.proofs.Bits.{has_le}
 use Rattle.network.proofs.Masks.{without_is}
 use Rattle.network.proofs.Words.{length_words, word_of}
 use Rattle.propagation.specs.Strikes.{without, left_by, Struck}
@@ -71,6 +72,12 @@ module _ (s : State) (k : Sound s) where
   module _ (x a : ℕ) (r : OptionSet) (f : Found s x a r) (others : ℕ) (less : others ≡ set_without r.word a) where
     pub others_are : others ≡ get_or s.standing x 0 - 2 ^ a
     others_are = less ∙ without_is r.word a (T_yes _ (ap (λ w. has w a) f.word ∙ f.stands)) ∙ ap (λ w. w - 2 ^ a) f.word
+
+    holds : 2 ^ a ≤ get_or s.standing x 0
+    holds = has_le (get_or s.standing x 0) a (T_yes _ f.stands)
+
+    pub is_last : true ≡ eqb others 0 → get_or s.standing x 0 ≡ 2 ^ a
+    is_last e = let none = eqb-true others 0 (sym e) in omega (arith, others_are, holds)
 
     pub is_not_last : false ≡ eqb others 0 → get_or s.standing x 0 ≡ 2 ^ a → ⊥
     is_not_last e l = let some = eqb-false others 0 (sym e) in some (omega (arith, others_are))

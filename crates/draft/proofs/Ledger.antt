@@ -19,8 +19,8 @@ use Rattle.draft.specs.Draft.Settles.{done, wiped, unfit}
 use Rattle.draft.specs.declared.types.Taken.{Taken}
 use Rattle.draft.specs.declared.types.Call.{Call}
 use Rattle.draft.specs.declared.types.Call.TheVariants as call
-use Rattle.propagation.proofs.Strikes.{part_same, part_other, part_without, is_field}
-use Rattle.draft.proofs.Sets.{fit_set, fit_without, filled_set}
+use Rattle.propagation.proofs.Strikes.{is_field}
+use Rattle.draft.proofs.Sets.{part_same, part_other, part_without, fit_set, fit_without, filled_set}
 use Rattle.draft.proofs.Strikes.{struck_left, struck_fit, struck_append, struck_more, in_force_more}
 use Rattle.draft.proofs.Choosing.{choose_struck}
 

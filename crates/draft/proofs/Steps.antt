@@ -1,12 +1,12 @@
 -- A call's answer, refused or done.
-use Rattle.std.proofs.Common.{Result, MatchResult, sym, subst, ◌≡◌, ℕ, ◌^◌, ◌<◌, true, List, [], ◌∷◌, length, get_or, set, Some, None, Ok, Err, refl, ap}
-use Rattle.std.proofs.lemmas.Bool.{lt-ltb, le-ltb, ne_eqb}
+use Rattle.std.proofs.Common.{Result, MatchResult, sym, subst, ◌≡◌, ℕ, ◌^◌, ◌<◌, true, List, [], ◌∷◌, length, get_or, set, Some, None, Ok, Err, refl, ap, arith}
+use Rattle.std.proofs.lemmas.Bool.{lt-ltb, le-ltb, eq-eqb, ne_eqb}
 use Rattle.faults.specs.declared.EngineFault.{EngineFault}
-use Rattle.faults.specs.declared.EngineFault.TheVariants.{OutOfRange}
+use Rattle.faults.specs.declared.EngineFault.TheVariants.{OutOfRange, LastOption}
 use Rattle.network.specs.Network.{option_limit, Rule, part}
 use Rattle.propagation.specs.Strikes.{without}
 use Rattle.propagation.specs.declared.record.Decision.TheVariants as decision
-use Rattle.draft.specs.Draft.{State, Outcome, Step, Does, refusal, decide, decision_limit, choose_strikes, exclude_strike}
+use Rattle.draft.specs.Draft.{State, Outcome, Step, Does, refusal, decide, decision_limit, choose_strikes, exclude_strike, take_back}
 use Rattle.network.specs.declared.options.OptionSet.{OptionSet}
 use Rattle.draft.specs.View.{StandsIn, NoField, shown}
 use Rattle.draft.specs.declared.types.Call.{Call}
@@ -31,6 +31,10 @@ shows rules s x (Err why) h =
 -- a decision on an option in range
 module _ (rules : List Rule) (s : State) (x a : ℕ) (is_field : x < length s.opening) (is-option : a < option_limit) where
   module _ (stands : part s.standing x a ≡ true) where
+    pub excludes_last : get_or s.standing x 0 ≡ 2 ^ a → Step rules s (call.Exclude x a) (Err LastOption) s
+    excludes_last h =
+        refused rules s (call.Exclude x a) LastOption (rw (lt-ltb x (length s.opening) is_field, lt-ltb a option_limit is-option, stands, eq-eqb (get_or s.standing x 0) (2 ^ a) h) refl)
+
     pub chooses : (length s.taken ≡ decision_limit → ⊥) → (s' : State) → s' ≡ decide s (decision.Choose x a) (choose_strikes (get_or s.standing x 0) x a) (set s.standing x (2 ^ a)) → Step rules s (call.Choose x a) (Ok Done) s'
     chooses h s' e =
         acts rules s (call.Choose x a) (Ok Done) s' (rw (lt-ltb x (length s.opening) is_field, lt-ltb a option_limit is-option, stands, ne_eqb (length s.taken) decision_limit h) refl) (refl, e)
@@ -40,3 +44,6 @@ module _ (rules : List Rule) (s : State) (x a : ℕ) (is_field : x < length s.op
       excludes h s' e =
           acts rules s (call.Exclude x a) (Ok Done) s'
           (rw (lt-ltb x (length s.opening) is_field, lt-ltb a option_limit is-option, stands, ne_eqb (get_or s.standing x 0) (2 ^ a) others, ne_eqb (length s.taken) decision_limit h) refl) (refl, e)
+
+pub takes_back : (rules : List Rule) (s : State) → 0 < length s.taken → (s' : State) → s' ≡ take_back s → Step rules s call.TakeBack (Ok Done) s'
+takes_back rules s h s' e = acts rules s call.TakeBack (Ok Done) s' (rw (ne_eqb (length s.taken) 0 (λ z. omega arith)) refl) (refl, e)

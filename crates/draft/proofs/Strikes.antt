@@ -8,8 +8,8 @@ use Rattle.propagation.specs.declared.record.Strike.{Strike}
 use Rattle.propagation.specs.declared.record.Decision.{Decision}
 use Rattle.propagation.specs.declared.record.Cause.{Cause}
 use Rattle.propagation.specs.declared.record.Cause.TheVariants.{Decided, Unsupported}
-use Rattle.propagation.proofs.Strikes.{part_without, options_without, struck_gone as not_there}
-use Rattle.draft.proofs.Sets.{fit_without}
+use Rattle.propagation.proofs.Strikes.{options_without, struck_gone as not_there}
+use Rattle.draft.proofs.Sets.{part_without, fit_without}
 
 module _ (rules : List Rule) (ds : List Decision) where
   pub struck_left : (sets : List ℕ) (xs : List Strike) (last : List ℕ) → Struck rules ds sets xs last → last ≡ left_by sets xs

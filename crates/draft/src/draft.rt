@@ -21,8 +21,8 @@ use propagation::record::Strike;
 // How many decisions can be in force.
 pub const DECISIONS: usize = 64;
 
-// How many entries a record can have.
-pub const STRIKES: usize = propagation::record::STRIKES;
+// How many entries a record can have: every option of every field can be struck once.
+pub const STRIKES: usize = 512;
 
 // What an accepted opening leads to. The record has room for every option that stands, and the decisions for as many as
 // can be in force, so that no call wants for memory.

@@ -12,6 +12,8 @@ mod settling;
 pub mod types;
 
 // The law holds at the opening and after each call of every run.
-pub fn law_holds()
+pub fn law_holds() -> u8
     ensures { Law }
-{}
+{
+    0
+}

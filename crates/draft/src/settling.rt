@@ -16,7 +16,7 @@ use propagation::record::{Strike, WipedOut};
 use propagation::undo::put_back;
 
 // Strikes what has no partner, or leaves everything as it was where a field would become empty.
-// It takes what `propagate` takes: a struct of the four would be made for this call and taken apart in it.
+// It takes what `propagate` takes: each belongs to another owner, so that a struct of the four would only be made here.
 pub(crate) fn settle_sets<B: Book, W: Agenda>(
     sets: &mut [OptionSet],
     book: &mut B,

@@ -10,7 +10,7 @@ pub struct Taken {
     pub mark: usize,
 }
 
-// One call on a draft. A choose or an exclude is no `Decision` yet: it may be refused.
+// One call on a draft.
 #[derive(Clone, Copy, PartialEq, Eq, Debug)]
 pub enum Call {
     // leave only the option standing in the field

@@ -8,15 +8,15 @@ use network::options::OptionSet;
 use network::rules::FormulaRule;
 use std::test::Fail;
 
+fn set(word: u32) -> OptionSet {
+    OptionSet::from(word)
+}
+
 // 64 decisions can be in force and no more; taken back one by one, they leave what was opened.
 #[test]
 fn takes_64_decisions(rt: HostRuntime) -> Result<(), Fail> {
     let rules: [FormulaRule; 0] = [];
-    let sets = [
-        OptionSet::from(u32::MAX),
-        OptionSet::from(u32::MAX),
-        OptionSet::from(u32::MAX),
-    ];
+    let sets = [set(u32::MAX), set(u32::MAX), set(u32::MAX)];
     let mut draft = open(
         rt.alloc(),
         &sets,
@@ -38,7 +38,7 @@ fn takes_64_decisions(rt: HostRuntime) -> Result<(), Fail> {
     }
     assert_eq!(rt; draft.take_back(), Err(EngineFault::NoDecision));
     for field in 0..3u8 {
-        assert_eq!(rt; draft.show(field), Ok(OptionSet::from(u32::MAX)));
+        assert_eq!(rt; draft.show(field), Ok(set(u32::MAX)));
     }
     Ok(())
 }
@@ -47,7 +47,7 @@ fn takes_64_decisions(rt: HostRuntime) -> Result<(), Fail> {
 #[test]
 fn takes_back_the_latest(rt: HostRuntime) -> Result<(), Fail> {
     let rules: [FormulaRule; 0] = [];
-    let sets = [OptionSet::from(0b1111), OptionSet::from(0b111)];
+    let sets = [set(0b1111), set(0b111)];
     let mut draft = open(
         rt.alloc(),
         &sets,
@@ -57,13 +57,13 @@ fn takes_back_the_latest(rt: HostRuntime) -> Result<(), Fail> {
     assert_eq!(rt; draft.exclude(0, 1), Ok(()));
     assert_eq!(rt; draft.choose(1, 2), Ok(()));
     assert_eq!(rt; draft.choose(0, 3), Ok(()));
-    assert_eq!(rt; draft.show(0), Ok(OptionSet::from(0b1000)));
+    assert_eq!(rt; draft.show(0), Ok(set(0b1000)));
     assert_eq!(rt; draft.take_back(), Ok(()));
-    assert_eq!(rt; draft.show(0), Ok(OptionSet::from(0b1101)));
-    assert_eq!(rt; draft.show(1), Ok(OptionSet::from(0b100)));
+    assert_eq!(rt; draft.show(0), Ok(set(0b1101)));
+    assert_eq!(rt; draft.show(1), Ok(set(0b100)));
     assert_eq!(rt; draft.take_back(), Ok(()));
-    assert_eq!(rt; draft.show(0), Ok(OptionSet::from(0b1101)));
-    assert_eq!(rt; draft.show(1), Ok(OptionSet::from(0b111)));
+    assert_eq!(rt; draft.show(0), Ok(set(0b1101)));
+    assert_eq!(rt; draft.show(1), Ok(set(0b111)));
     Ok(())
 }
 
@@ -71,7 +71,7 @@ fn takes_back_the_latest(rt: HostRuntime) -> Result<(), Fail> {
 #[test]
 fn refuses_in_order(rt: HostRuntime) -> Result<(), Fail> {
     let rules: [FormulaRule; 0] = [];
-    let sets = [OptionSet::from(0b101), OptionSet::from(0b10)];
+    let sets = [set(0b101), set(0b10)];
     let mut draft = open(
         rt.alloc(),
         &sets,
@@ -86,6 +86,6 @@ fn refuses_in_order(rt: HostRuntime) -> Result<(), Fail> {
     assert_eq!(rt; draft.exclude(1, 1), Err(EngineFault::LastOption));
     assert_eq!(rt; draft.take_back(), Err(EngineFault::NoDecision));
     assert_eq!(rt; draft.show(2), Err(EngineFault::OutOfRange));
-    assert_eq!(rt; draft.show(1), Ok(OptionSet::from(0b10)));
+    assert_eq!(rt; draft.show(1), Ok(set(0b10)));
     Ok(())
 }

@@ -10,7 +10,6 @@ use network::rules::{FormulaRule, Kind};
 use std::alloc::Global;
 use std::test::Fail;
 
-// Each crate of tests has its own, beside its rules: a crate for one literal would be no plainer.
 fn rule(left: u8, right: u8) -> FormulaRule {
     FormulaRule {
         left,

@@ -89,7 +89,6 @@ pub enum ProgramFault {
     Engine(EngineFault),
 }
 
-// Written by hand, here and below, since a clause names the case that `?` makes of a fault.
 impl From<LineFault> for FrameFault {
     ghost from_gives = { λ fault r. r ≡ frame.Line fault };
 

@@ -26,8 +26,7 @@ fn digit_of(n: u8) -> u8
     }
 }
 
-// The number that a digit stands for. A rule of the project: by ranges of bytes, with a guard for what is no digit; and
-// `to_digit` would take lower case letters too.
+// The number that a digit stands for, by ranges of bytes: `to_digit` would take lower case letters too.
 fn value_of(byte: u8) -> Option<u8>
     ensures test { is_some result ≡ is_digit byte }
     ensures value { IfSome result (λ n. (n < 16) × (digit n ≡ byte)) }

@@ -1,7 +1,7 @@
 // The words that every layer shares: sets of options, sides of a rule, rules as they are entered.
 //
 // Sets of options:         options::OptionSet
-// Parts of a rule:         rules::Side, rules::Arc, rules::Ends
+// Parts of a rule:         rules::Side, rules::Ends
 // A formula rule:          rules::FormulaRule, rules::Kind
 // How many there can be:   options::OPTIONS, rules::FIELDS, rules::RULES
 #![tactic(auto)]

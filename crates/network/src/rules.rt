@@ -11,11 +11,11 @@ pub const FIELDS: u8 = 16;
 // How many rules an opening can have.
 pub const RULES: u8 = 128;
 
-// Stands for any number of rules that is too high. A rule of the project: the four questions of a book are answered
-// with these numbers (docs/ENGINE.md, "Books"), so it is no Option.
+// Stands for any number of rules that is too high. It stays a number: the answer to how many rules there are is fixed so.
 pub const TOO_MANY: u8 = RULES + 1;
 
-// Stands for a field where there is none. A rule of the project, as above; and a lent table may hold it.
+// Stands for a field where there is none. It stays a number: the answer to which ends a rule has is fixed so, and a
+// lent table may hold it.
 pub const NO_FIELD: u8 = 255;
 
 // One of the two ends of a rule.
@@ -103,7 +103,7 @@ pub enum Kind {
     AtMost,
     // the options lie at least D apart
     Apart,
-    // any other number: allows no pair. A rule of the project: a lent record may have it, so it is a kind and no None
+    // any other number: allows no pair; a lent record may have it, so it is a kind and not a missing one
     Unknown,
 }
 

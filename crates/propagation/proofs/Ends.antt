@@ -14,7 +14,7 @@ use Rattle.network.specs.declared.rules.Arc.{Arc}
 use Rattle.agenda.proofs.Waits.{waits_le}
 use Rattle.propagation.specs.Strikes.{options}
 use Rattle.propagation.specs.Opening.{Accepted, Emptied, Blamed}
-use Rattle.propagation.specs.Arcs.{Supported, own, across, pairs, ArcAt, Revised, ArcOk, Sound, OnlyArcs, Listed, BetweenFields, OthersOk, OthersBut, Neighbours, Still, Elsewhere, number_of}
+use Rattle.propagation.specs.Arcs.{own, across, pairs, ArcAt, Revised, ArcOk, Sound, OnlyArcs, AllBelow, Listed, BetweenFields, OthersOk, OthersBut, Neighbours, Still, Elsewhere, number_of}
 use Rattle.propagation.specs.Progress.{Progress, Filled, SettledOn, WipedFrom}
 use Rattle.propagation.specs.Turns.{work, Ready, Wiped}
 use Rattle.propagation.specs.declared.arcs.PlacedArc.{PlacedArc}
@@ -51,21 +51,6 @@ either_side Left Right ne = refl
 either_side Right Left ne = refl
 either_side Right Right ne = absurd (ne refl)
 
-module _ (rules : List Rule) (s s' : List ℕ) (arc : Arc) (x : ℕ) (field : x ≡ own rules arc.side arc.rule)
-    (shrunk : Within (part s') (part s)) (stays : (a : ℕ) → Supported rules (part s) arc.side arc.rule a → T (part s x a) → T (part s' x a)) where
-  -- the arc back along the same rule: what was struck was nobody's partner there
-  back_ok : ArcOk rules (part s) (opposite arc.side) arc.rule → ArcOk rules (part s') (opposite arc.side) arc.rule
-  back_ok ok b t =
-      let before = shrunk _ _ t in
-      let partner = ok b before in
-      let a = partner.0 in
-      let to_own = back_across rules arc.side arc.rule ∙ sym field in
-      let here : T (part s x a) = subst (λ z. T (part s z a)) to_own partner.1.1 in
-      let across_there : T (part s (across rules arc.side arc.rule) b) = subst (λ z. T (part s z b)) (back_own rules arc.side arc.rule) before in
-      let pair : T (pairs rules arc.side arc.rule a b) = subst T (back_pairs rules arc.side arc.rule a b) partner.1.0 in
-      let kept : T (part s' x a) = stays a (b, (pair, across_there)) here in
-      (a, (partner.1.0, subst (λ z. T (part s' z a)) (sym to_own) kept))
-
 module _ (rules : List Rule) (s s' : List ℕ) (arc : PlacedArc) (revised : Revised rules s s' arc) where
   the_arc : (r : ℕ) (side : Side) → number_of r side ≡ number_of arc.arc.rule arc.arc.side → ArcOk rules (part s') side r
   the_arc r side e =
@@ -81,6 +66,19 @@ module _ (rules : List Rule) (s s' : List ℕ) (arc : PlacedArc) (revised : Revi
       ]
 
   module _ (at : ArcAt rules s arc) (shrunk : Within (part s') (part s)) where
+    -- the arc back along the same rule: what was struck was nobody's partner there
+    back_ok : ArcOk rules (part s) (opposite arc.arc.side) arc.arc.rule → ArcOk rules (part s') (opposite arc.arc.side) arc.arc.rule
+    back_ok ok b t =
+        let before = shrunk _ _ t in
+        let partner = ok b before in
+        let a = partner.0 in
+        let to_own = back_across rules arc.arc.side arc.arc.rule ∙ sym at.field in
+        let here : T (part s arc.own a) = subst (λ z. T (part s z a)) to_own partner.1.1 in
+        let across_there : T (part s (across rules arc.arc.side arc.arc.rule) b) = subst (λ z. T (part s z b)) (back_own rules arc.arc.side arc.arc.rule) before in
+        let pair : T (pairs rules arc.arc.side arc.arc.rule a b) = subst T (back_pairs rules arc.arc.side arc.arc.rule a b) partner.1.0 in
+        let kept : T (part s' arc.own a) = revised.stays a (b, (pair, across_there)) here in
+        (a, (partner.1.0, subst (λ z. T (part s' z a)) (sym to_own) kept))
+
     -- some options were struck, and the other arcs across from which the field lies were put
     pub others_put : (ends : List Ends) → Listed rules ends → (w w' : Waiting) → Still w w' → Neighbours ends (length rules) arc.own arc.arc.rule w' → OthersBut rules (part s) w (arc.arc) → OthersOk rules (part s') w'
     others_put ends listed w w' more every others r side lt off =
@@ -92,7 +90,7 @@ module _ (rules : List Rule) (s s' : List ℕ) (arc : PlacedArc) (revised : Revi
                 | inl same ↦
                     let turned : side ≡ opposite arc.arc.side = either_side side arc.arc.side (λ e. ne (ap (λ q. number_of q side) same ∙ ap (number_of arc.arc.rule) e)) in
                     let ok : ArcOk rules (part s) (opposite arc.arc.side) arc.arc.rule = subst (λ t. ArcOk rules (part s) t arc.arc.rule) turned (subst (λ q. ArcOk rules (part s) side q) same (others r side lt ne before)) in
-                    subst (λ q. ArcOk rules (part s') side q) (sym same) (subst (λ t. ArcOk rules (part s') t arc.arc.rule) (sym turned) (back_ok rules s s' arc.arc arc.own at.field shrunk revised.stays ok))
+                    subst (λ q. ArcOk rules (part s') side q) (sym same) (subst (λ t. ArcOk rules (part s') t arc.arc.rule) (sym turned) (back_ok ok))
                 | inr other ↦
                     let far : across rules side r ≡ arc.own → ⊥ = λ e. both_ways _ off (every r side lt other (listed.across r side lt ∙ e)) in
                     λ a t. support_stays rules s s' side r a (revised.elsewhere _ far) (others r side lt ne before a (shrunk _ _ t))

@@ -1,13 +1,12 @@
 -- What strikes leave.
-use Rattle.std.proofs.Common.{◌≡◌, ℕ, zero, suc, ◌+◌, ◌-◌, ◌^◌, ◌<◌, ◌≤◌, not, ◌&&◌, T, eqb, List, [], ◌∷◌, ◌++◌, length, get_or, set, sym, refl, ap, ◌∙◌, subst, ⊎_elim, inl, inr, arith}
-use lib.Dec.{eqb_refl}
+use Rattle.std.proofs.Common.{◌≡◌, ℕ, zero, suc, ◌+◌, ◌-◌, ◌^◌, ◌<◌, ◌≤◌, not, ◌&&◌, T, eqb, List, [], ◌∷◌, ◌++◌, length, get_or, set, sym, refl, ap, ◌∙◌, subst, inl, inr, arith}
 use lib.Count.{ones}
 use Rattle.std.proofs.lemmas.Bool.{cases_eq, cases_lt, eq-eqb, ne_eqb}
 use Rattle.std.proofs.lemmas.List.{get_or-set_same, get_or-set_other, get_or_past, length-set}
 use Rattle.network.specs.Network.{has, Rule, Part, part, Within, ArcConsistent}
 use Rattle.network.specs.declared.rules.Side.{Side}
 use Rattle.network.specs.declared.rules.Side.TheVariants.{Left, Right}
-use Rattle.network.proofs.Truth.{yes_T, T_no, and_T, and_true, T_left, T_right}
+use Rattle.network.proofs.Truth.{T_no, and_T, T_left, T_right}
 use Rattle.network.proofs.Bits.{has_less, ones_less, none_of_zero}
 use Rattle.propagation.specs.Strikes.{without, options, UnsupportedAt, Holds, Struck}
 use Rattle.propagation.specs.declared.record.Decision.{Decision}
@@ -22,22 +21,6 @@ is_field sets x a t =
       | inl lt ↦ lt
       | inr past ↦ absurd (T_no (has 0 a) (none_of_zero a) (subst (λ w. T (has w a)) (get_or_past sets x 0 past) t))
     ]
-
--- what a part has once a word is put in, or an option is struck
-pub part_same : (sets : List ℕ) (x v b : ℕ) → x < length sets → part (set sets x v) x b ≡ has v b
-part_same sets x v b h = ap (λ w. has w b) (get_or-set_same sets x v 0 h)
-
-pub part_other : (sets : List ℕ) (x v y b : ℕ) → (y ≡ x → ⊥) → part (set sets x v) y b ≡ part sets y b
-part_other sets x v y b n = ap (λ w. has w b) (get_or-set_other sets x y v 0 n)
-
-pub part_without : (sets : List ℕ) (x a y b : ℕ) → T (part sets x a) → part (without sets x a) y b ≡ (part sets y b && not (eqb y x && eqb b a))
-part_without sets x a y b t =
-    ⊎_elim
-    (λ e. subst (λ z. part (without sets x a) z b ≡ (part sets z b && not (eqb z x && eqb b a))) (sym e)
-    (part_same sets x (get_or sets x 0 - 2 ^ a) b (is_field sets x a t) ∙ has_less (get_or sets x 0) a b t
-    ∙ ap (λ v. part sets x b && not (v && eqb b a)) (sym (yes_T (eqb x x) (eqb_refl x)))))
-    (λ n. part_other sets x (get_or sets x 0 - 2 ^ a) y b n ∙ sym (and_true (part sets y b)) ∙ ap (λ v. part sets y b && not (v && eqb b a)) (sym (ne_eqb y x n)))
-    (cases_eq y x)
 
 module _ (sets : List ℕ) (x a : ℕ) (stands : T (part sets x a)) where
   pub without_same : get_or (without sets x a) x 0 ≡ get_or sets x 0 - 2 ^ a
@@ -70,7 +53,7 @@ module _ (sets : List ℕ) (x a : ℕ) (stands : T (part sets x a)) where
   pub struck_gone : T (part (without sets x a) x a) → ⊥
   struck_gone t = subst (λ v. T (not v)) (eq-eqb a a refl) (T_right (part sets x a) (not (eqb a a)) (subst T (in_field a) t))
 
-pub options_set : (sets : List ℕ) (x v : ℕ) → x < length sets → options (set sets x v) + ones (get_or sets x 0) ≡ options sets + ones v
+options_set : (sets : List ℕ) (x v : ℕ) → x < length sets → options (set sets x v) + ones (get_or sets x 0) ≡ options sets + ones v
 options_set [] x v h = absurd (omega arith)
 options_set (w ∷ ws) zero v h = omega arith
 options_set (w ∷ ws) (suc x) v h = omega (arith, options_set ws x v (omega arith))

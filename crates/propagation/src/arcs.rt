@@ -39,14 +39,12 @@ pub fn list_ends<'a, B: Book>(book: &B, table: &'a mut [Ends; RULES as usize]) -
     ensures { Listed (B.Book.meaning book.now) result.now }
 {
     let listed = &mut table[..book.count() as usize];
-    // A rule is asked for by its number, here and below: so the entries are counted.
     for (rule, ends) in listed.iter_mut().enumerate() {
         *ends = book.ends(rule as u8);
     }
     listed
 }
 
-// Rule, side and ends come one by one, here and below: the loops have them so, and an arc is made only to be put.
 // Lets the arc on that side of a rule with these ends wait: the fewer options stand in its field, the more urgent.
 fn put_arc<W: Agenda>(sets: &[OptionSet], agenda: &mut W, rule: u8, side: Side, ends: Ends)
     requires rule { rule < rule_limit }

@@ -6,9 +6,6 @@ ghost use Rattle.faults.specs.declared.EngineFault.TheVariants as engine;
 use faults::EngineFault;
 use network::rules::Side;
 
-// How many strikes there can be: every option of every field can be struck once.
-pub const STRIKES: usize = 512;
-
 // A decision: a choose or an exclude that was done, with its field and option.
 #[derive(Clone, Copy, PartialEq, Eq, Debug)]
 pub enum Decision {

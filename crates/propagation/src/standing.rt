@@ -8,8 +8,8 @@ use crate::record::Strike;
 use network::options::OptionSet;
 
 // The sets as they stand, and the list of strikes, in which there is room for every option that stands.
-// The book and the agenda are not in it, since methods that only strike take neither. That a book's meaning stays is
-// about two states, so each method that takes the book says it.
+// The book and the agenda are not in it: each has an owner of its own, and methods that only strike take neither. So
+// each method that takes the book says that its meaning stays.
 #[derive(Drop)]
 pub struct Standing<'a> {
     pub sets: &'a mut [OptionSet],

@@ -6,7 +6,6 @@ use network::options::OptionSet;
 use network::rules::{Ends, FormulaRule, Kind};
 use std::test::Fail;
 
-// Each crate of tests has its own, beside its rules: a crate for one literal would be no plainer.
 fn formula(difference: i8) -> FormulaRule {
     FormulaRule {
         left: 0,

@@ -46,8 +46,7 @@ entered c frame.Settle = c
 entered c frame.TakeBack = c
 entered c (frame.Show field) = c
 
--- a refusal is the answer and changes nothing. The engine has the same two lines for its own faults: one definition for
--- both would need the faults as a parameter, which says no more.
+-- a refusal is the answer and changes nothing
 abbrev pub verdict : Option ProgramFault → Result (Unit {0}) ProgramFault
 verdict None = Ok tt
 verdict (Some why) = Err why

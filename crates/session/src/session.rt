@@ -32,7 +32,6 @@ pub struct Refusal {
 }
 
 // Enters what a frame of the catalogue holds; any other frame is misplaced.
-// A match: each frame has its own fields and its own call.
 fn enter(catalogue: &mut Preparation, frame: Frame) -> Result<(), ProgramFault>
     ensures answers { result ≡ verdict (refusal (content catalogue.old) frame) }
     ensures after { content catalogue.new ≡ outcome (refusal (content catalogue.old) frame) (content catalogue.old) (entered (content catalogue.old) frame) }
@@ -124,7 +123,6 @@ impl<'a> Session<'a> {
 
     // Answers one line with the bytes of a line, and tells how many: none once 65,535 lines were answered. A buffer
     // with less room than the longest line is refused, and nothing changes. Only the first 34 bytes of a line matter.
-    // No answer is told by 0 and no Option: it is how many bytes were written.
     pub fn exchange(&mut self, line: &[u8], out: &mut [u8]) -> Result<usize, FrameFault>
         ensures { (whole : List ℕ) → take line_reach whole ≡ take line_reach line.now → Exchanged (state self.old) whole out.old result out.new (state self.new) }
     {

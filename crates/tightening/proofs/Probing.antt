@@ -9,7 +9,7 @@ use Rattle.tightening.specs.Underway.{Probed, Underway}
 use Rattle.tightening.specs.Tightening.{Stands, less_pairs, narrowed, Tightest, TightWipedOut, RowsAreExact}
 use Rattle.network.proofs.Truth.{T_yes, and_T, T_left, T_right}
 use Rattle.std.proofs.Math.Dec.{not_T, T_not}
-use Rattle.propagation.proofs.Strikes.{is_field}
+use Rattle.tightening.proofs.Sets.{field_within}
 use Rattle.tightening.proofs.Theory.{arc_supported, in_largest, narrowed_to, covers_start, covers_struck, covers_pruned, covers_empty, probed_after, end_tightest, tightest_rows}
 
 -- p' and q' are p and q less option a of field x and its pairs
@@ -146,7 +146,7 @@ module _ (rules : List Rule) (sets : List ℕ) where
       → ((y b : ℕ) → T (p y b) → T (q y b x a) → T (waits' y b))
       → Underway rules sets waits' p' q'
   underway_struck waits waits' p p' q q' x a w t out less again paired =
-      let field : (y b : ℕ) → T (p y b) → y < length sets = λ y b s. is_field sets y b (w.standing.options y b s) in
+      let field : (y b : ℕ) → T (p y b) → y < length sets = λ y b s. field_within sets y b (w.standing.options y b s) in
       record {
         covers = covers_struck rules sets p p' q q' x a w.covers out less.options_stay less.pairs_stay;
         standing = record {
@@ -173,7 +173,7 @@ module _ (rules : List Rule) (sets : List ℕ) where
       → ((y b : ℕ) → T (p y b) → T (q y b x a) → T (waits' y b))
       → Underway rules sets waits' p q'
   underway_pruned waits waits' p q q' x a l w t large full less again paired =
-      let field : (y b : ℕ) → T (p y b) → y < length sets = λ y b s. is_field sets y b (w.standing.options y b s) in
+      let field : (y b : ℕ) → T (p y b) → y < length sets = λ y b s. field_within sets y b (w.standing.options y b s) in
       let self : Probed rules sets p q' x a =
       probed_after rules sets p q q' x a l large full (λ y b z c s i j. less.stay y b z c s (λ _ _. j) (λ _ _. i)) less.kept in
       let other : (u c : ℕ) → T (p u c) → (T (waits' u c) → ⊥) → (u ≡ x → c ≡ a → ⊥) → Probed rules sets p q' u c =

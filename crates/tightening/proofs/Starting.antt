@@ -19,7 +19,7 @@ use Rattle.tightening.specs.Tightening.{Stands}
 use Rattle.tightening.specs.Start.{first_word, first_word_at, Standing}
 use Rattle.tightening.proofs.PairWords.{pairs_at, pairs_range, word_below}
 use Rattle.tightening.proofs.Probing.{StandsUnder, stands_more, stands_fewer, stands_mirror}
-use Rattle.propagation.proofs.Strikes.{is_field}
+use Rattle.tightening.proofs.Sets.{field_within}
 use Rattle.tightening.proofs.TakingAway.{cond_in, cond_out, or_left, or_right, or_cases, these, are}
 
 pub first_in : (sets : List ℕ) (x a y : ℕ) → x ≢ y → part sets x a ≡ true → first_word sets x a y ≡ get_or sets y 0
@@ -58,9 +58,9 @@ written_all sets words few fit done =
           let f = first_tells sets x a y b (subst T (read x a y b r.first r.option r.second) t) in
           record { apart = f.apart; first = f.first; second = f.second; forth = λ k l _ _. absurd (omega arith); back = λ k l _ _. absurd (omega arith) };
       only = λ x a y b s.
-          let h = is_field sets x a s.first in
+          let h = field_within sets x a s.first in
           let k = has_below 32 (get_or sets x 0) a (fit x) s.first in
-          let l : y < 16 = omega (arith, is_field sets y b s.second) in
+          let l : y < 16 = omega (arith, field_within sets y b s.second) in
           subst T (sym (read x a y b h k l)) (first_told sets x a y b (record { apart = s.apart; first = s.first; second = s.second }));
     }
 

@@ -17,7 +17,7 @@ use Rattle.tightening.specs.Rows.{InTable, TwoWay, pairs_in, less_back, less_tow
 use Rattle.tightening.specs.Tightening.{less_pairs}
 use Rattle.tightening.specs.declared.rows.Choice.{Choice}
 use Rattle.tightening.proofs.PairWords.{pairs_at, pairs_range, pairs_written, word_below, word_apart}
-use Rattle.propagation.proofs.Strikes.{options_set}
+use Rattle.tightening.proofs.Sets.{options_set}
 
 pub cond_in : (c l : Bool) → (T c → T l) → T (cond c l true)
 cond_in true l f = f tt

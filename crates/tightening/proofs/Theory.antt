@@ -9,7 +9,7 @@ use Rattle.books.specs.Pairs.{Pairs, pair_rule, pair_rules, triangle, pair_at, p
 use Rattle.tightening.specs.Underway.{Covers, Consistent, Probed}
 use Rattle.tightening.specs.Tightening.{Stands, narrowed, row, StronglyDual, TightOption, TightPair, Tightest}
 use Rattle.network.proofs.Truth.{yes_T, T_yes, and_T, T_left, T_right}
-use Rattle.propagation.proofs.Strikes.{is_field}
+use Rattle.tightening.proofs.Sets.{field_within}
 use Rattle.books.proofs.Pairing.{rule_of, rule_is, rules_length, ends_order, ends_below, place_below, place_ends}
 
 -- a partner of option a of field x in field y: a kept option, paired with a in both orders
@@ -123,7 +123,7 @@ module _ (rules : List Rule) (sets : List ℕ) where
       → (c : ℕ) × InLargest (pair_rules (length sets) q) (narrowed p x a) z c
   kept_full p q sd x a t z l =
       let n = length sets in
-      let h : x < n = is_field sets x a (sd.options x a t) in
+      let h : x < n = field_within sets x a (sd.options x a t) in
       let by_pair : (y : ℕ) → y < n → x ≢ y → (c : ℕ) × InLargest (pair_rules n q) (narrowed p x a) z c =
       λ y k ne. let m = arc_supported n q p sd.arc x a y h k ne t in (sd.dual x a y m.option m.forth).full z l in
       ⊎_elim
@@ -213,7 +213,7 @@ module _ (rules : List Rule) (sets : List ℕ) where
     pairs = st.pairs;
     both_orders = λ x a y b t.
         let s = st.pairs x a y b t in
-        (probed_pair (length sets) q p x a y b (is_field sets x a s.0.first) (is_field sets y b s.0.second) s.0.apart ((done x a s.1.0).holds y b t)).1;
+        (probed_pair (length sets) q p x a y b (field_within sets x a s.0.first) (field_within sets y b s.0.second) s.0.apart ((done x a s.1.0).holds y b t)).1;
     arc = supported_arc (length sets) q p (probed_supported p q st done);
     dual = λ x a y b t. let d = done x a (st.pairs x a y b t).1.0 in record { full = d.full; member = d.holds y b t };
   }
@@ -290,7 +290,7 @@ module _ (rules : List Rule) (sets : List ℕ) where
   tightest_rows p q h x a t =
       let n = length sets in
       let sd = tightest_dual p q h in
-      let k : x < n = is_field sets x a (sd.options x a t) in
+      let k : x < n = field_within sets x a (sd.options x a t) in
       let full = kept_full p q sd x a t in
       let self : InLargest (pair_rules n q) (narrowed p x a) x a =
       let c = full x k in
@@ -302,7 +302,7 @@ module _ (rules : List Rule) (sets : List ℕ) where
       (λ e. let is = narrowed_to p x a b (subst (λ z. T (narrowed p x a z b)) (sym e) there) in
       subst (λ z. T (row q x a z b)) e (T_yes (row q x a x b) (row_same q x a b ∙ eq-eqb a b (sym is))))
       (λ ne. subst T (sym (row_other q x a y b ne))
-      (probed_pair n q p x a y b k (is_field sets y b (sd.options y b (narrowed_within p x a y b there))) ne i).0)
+      (probed_pair n q p x a y b k (field_within sets y b (sd.options y b (narrowed_within p x a y b there))) ne i).0)
       (cases_eq x y) in (
         record {
           all = λ y b s.

@@ -6,7 +6,7 @@ use Rattle.books.specs.Pairs.{Pairs}
 use Rattle.tightening.specs.Tightening.{narrowed, StronglyDual, TightOption, TightPair, Tightest}
 use Rattle.network.proofs.Truth.{T_yes, T_no, and_T, T_left, T_right}
 use Rattle.network.proofs.Bits.{has_step, none_of_zero}
-use Rattle.propagation.proofs.Strikes.{is_field}
+use Rattle.tightening.proofs.Sets.{field_within}
 use Rattle.tightening.proofs.Theory.{Supported, arc_supported, in_largest, narrowed_to, narrowed_in, end_dual, tight_mirror}
 use Rattle.tightening.specs.Underway.{Consistent, Probed}
 
@@ -89,7 +89,7 @@ below_two : (x a : ℕ) → T (part three x a) → a < 2
 below_two zero a t = two_options a t
 below_two (suc zero) a t = two_options a t
 below_two (suc (suc zero)) a t = two_options a t
-below_two (suc (suc (suc x))) a t = let h = is_field three (suc (suc (suc x))) a t in absurd (omega arith)
+below_two (suc (suc (suc x))) a t = let h = field_within three (suc (suc (suc x))) a t in absurd (omega arith)
 
 -- like options of different fields
 record Like (x a y b : ℕ) : Type 0 where
@@ -198,8 +198,8 @@ same_below (suc (suc x)) a y b h l t = absurd (omega arith)
 paired_like : (x a y b : ℕ) → TightPair chain three x a y b → Like x a y b
 paired_like x a y b t =
     let st = (t.1.1.0.pairs x a y b t.1.1.1).0 in
-    let h : x < 3 = is_field three x a st.first in
-    let l : y < 3 = is_field three y b st.second in
+    let h : x < 3 = field_within three x a st.first in
+    let l : y < 3 = field_within three y b st.second in
     record {
       first = h;
       second = l;

@@ -16,7 +16,7 @@ use Rattle.propagation.specs.Refusals.{any, empty}
 use Rattle.propagation.specs.Strikes.{options, Struck, without}
 use Rattle.propagation.specs.Undo.{Fit}
 use Rattle.propagation.specs.declared.record.Strike.{Strike}
-use Rattle.propagation.proofs.Strikes.{shrinks, is_field, struck_gone}
+use Rattle.propagation.proofs.Strikes.{shrinks}
 use Rattle.tightening.specs.Tightening.{narrowed, row}
 use Rattle.tightening.specs.Underway.{Consistent}
 use Rattle.tightening.specs.Rows.{InTable, TwoWay, pairs_in, word_to, row_word}
@@ -24,6 +24,7 @@ use Rattle.tightening.specs.Outcomes.{LostOne, Tried}
 use Rattle.tightening.specs.declared.rows.Choice.{Choice}
 use Rattle.tightening.proofs.Theory.{largest_within, narrowed_within, narrowed_to, narrowed_in, probed_pair}
 use Rattle.tightening.proofs.PairWords.{pairs_at, pairs_range, pair_accepted}
+use Rattle.tightening.proofs.Sets.{field_within, not_there}
 
 -- no set is empty, or one is
 pub none_empty : (sets : List ℕ) → any empty sets ≡ false → Filled sets
@@ -64,7 +65,7 @@ few_options (w ∷ ws) fit = omega (arith, few_options ws (λ x. fit (suc x)), o
 pub struck_one : (rules : List Rule) (found : List Strike) (sets last : List ℕ) → Struck rules [] sets found last → 0 < length found → LostOne sets last
 struck_one rules [] sets last h l = absurd (omega arith)
 struck_one rules (s ∷ rest) sets last h l =
-    (s.field, (s.option, (h.0, λ t. struck_gone sets s.field s.option h.0 (shrinks rules [] rest (without sets s.field s.option) last h.1.1 s.field s.option t))))
+    (s.field, (s.option, (h.0, λ t. not_there sets s.field s.option h.0 (shrinks rules [] rest (without sets s.field s.option) last h.1.1 s.field s.option t))))
 
 -- no strike changes nothing
 pub struck_none : (rules : List Rule) (found : List Strike) (sets last : List ℕ) → Struck rules [] sets found last → length found ≡ 0 → last ≡ sets
@@ -97,7 +98,7 @@ module _ (r : Choice) (words sets : List ℕ) (at : InTable r words) (long : len
       ∙ sym (pairs_at n words x a y b at.field at.option (omega (arith, l, at.few)))
       ∙ sym (ap (λ t. cond t (eqb a b) (q x a y b)) (ne_eqb x y ne)))
       (λ (g : n ≤ y).
-      no_T (part sets y b) (λ t. absurd (omega (arith, is_field sets y b t, long, g)))
+      no_T (part sets y b) (λ t. absurd (omega (arith, field_within sets y b t, long, g)))
       ∙ sym (no_T (q x a y b) (λ t. absurd (omega (arith, (pairs_range n words y b x a (two.mirrored x a y b t)).first, g))))
       ∙ sym (ap (λ t. cond t (eqb a b) (q x a y b)) (ne_eqb x y ne)))
       (cases_lt y n))
@@ -119,7 +120,7 @@ module _ (rules : List Rule) (first : List ℕ) (p : Part) (q : Pairs) (standing
   row_in y b t = grind (arith, common_steps, eq-eqb, narrowed_in, ne_eqb)
 
   field_of : (y b : ℕ) → T (p y b) → y < fields
-  field_of y b t = is_field first y b (standing.options y b t)
+  field_of y b t = field_within first y b (standing.options y b t)
 
   in_row : (y b : ℕ) → InLargest own (narrowed p x a) y b → T (row q x a y b)
   in_row y b i =

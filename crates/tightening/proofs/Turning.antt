@@ -25,7 +25,7 @@ use Rattle.tightening.specs.Underway.{Between, work}
 use Rattle.tightening.specs.declared.rows.Choice.{Choice}
 use Rattle.tightening.proofs.Theory.{narrowed_to, largest_within}
 use Rattle.tightening.proofs.Probing.{less_pairs_is, less_option_is, underway_skip, underway_quiet, underway_pruned, underway_struck, underway_end, underway_empty}
-use Rattle.propagation.proofs.Strikes.{is_field, part_without, options_without}
+use Rattle.tightening.proofs.Sets.{field_within, part_without, options_without}
 use Rattle.tightening.proofs.TakingAway.{below_power}
 use Rattle.tightening.proofs.Trying.{row_part, row_largest, row_wiped}
 use Rattle.tightening.proofs.Waitings.{others_wait, still_waits, nothing_waits}
@@ -137,7 +137,7 @@ module _ (rules : List Rule) (first : List ℕ) (n : ℕ) (sets pairs trial last
           subst (λ d. T (part last x d)) same m.1
 
       still : ((y : ℕ) → y < n → AllPass q x a y (part last y)) → T (part last y c)
-      still all = grind (arith, common_steps, eq-eqb, is_field, ne_eqb, own_stays, start_is)
+      still all = grind (arith, common_steps, eq-eqb, field_within, ne_eqb, own_stays, start_is)
 
   -- what waits once the partners are put
   module _ (w₂ : Waiting) (put : PutOn w₁ w₂) (all : (y c : ℕ) → T (q x a y c) → T (probes_of w₂ y c)) where

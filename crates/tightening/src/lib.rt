@@ -17,6 +17,8 @@ mod turn;
 
 // Over the largest strongly dual-consistent part, narrowing a field to a kept option and settling leaves just what the
 // option is paired with.
-pub fn rows_are_exact()
+pub fn rows_are_exact() -> u8
     ensures { RowsAreExact }
-{}
+{
+    0
+}

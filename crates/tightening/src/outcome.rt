@@ -24,7 +24,7 @@ impl From<WipedOut> for Emptied {
     }
 }
 
-// Propagates a row's sets under the pair words, and says yes or no: whether an option was struck. The list of strikes is
+// Propagates a row's sets under the pair words, and says whether an option was struck. The list of strikes is
 // overwritten; it has room for every option.
 pub(crate) fn try_out<W: Agenda>(
     row: &Row<'_>,

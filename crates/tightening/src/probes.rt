@@ -9,7 +9,6 @@ use agenda::job::{Probe, put_job};
 use network::options::OptionSet;
 
 // Lets the options of a set wait, as options of one field.
-// That only probes are put is said of each function that puts: it is about two states of the agenda.
 fn put_options<W: Agenda>(probes: &mut W, field: u8, set: OptionSet, urgency: u8)
     requires { field < field_limit }
     ensures put { PutOn (W.Agenda.waiting probes.old) (W.Agenda.waiting probes.new) }

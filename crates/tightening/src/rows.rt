@@ -1,6 +1,6 @@
 // Rows of pair words.
 
-ghost use Rattle.std.specs.Prelude.{◌≡◌, ℕ, ◌<◌, ◌≢◌, ◌⊎◌, length, slice_index};
+ghost use Rattle.std.specs.Prelude.{◌≡◌, ℕ, ◌<◌, ◌≤◌, ◌≢◌, ◌⊎◌, length, slice_index};
 ghost use Rattle.network.specs.Network.{words as words_of, has, part};
 ghost use Rattle.propagation.specs.Strikes.{options};
 ghost use Rattle.tightening.specs.Tightening.{less_pairs};
@@ -9,7 +9,7 @@ ghost use Rattle.tightening.specs.Rows.{InTable, TwoWay, pairs_in, less_back, le
 use books::pair::word_place;
 use network::options::OptionSet;
 
-// An option of a field, among so many fields. It is no `Probe`, since the number of fields goes with it.
+// An option of a field, among so many fields.
 #[derive(Clone, Copy)]
 pub(crate) struct Choice {
     pub(crate) fields: u8,
@@ -57,7 +57,6 @@ impl<'a> Row<'a> {
     {
         let own = self.own;
         let words = &mut *self.words;
-        // A word is found by the number of its field: so the fields are counted.
         for (other, keep) in sets.iter().enumerate() {
             if other != usize::from(own.field) {
                 keep_toward(words, own, other as u8, *keep);

@@ -33,7 +33,6 @@ fn first_word(sets: &[OptionSet], place: usize) -> OptionSet
 fn start_pairs(sets: &[OptionSet], pairs: &mut [OptionSet])
     ensures { (i : ℕ) → i < length pairs.old → slice_index (words pairs.new) i ≡ first_word_at (words sets.now) i }
 {
-    // A word is told by its place: so the words are counted.
     for (place, pair) in pairs.iter_mut().enumerate() {
         *pair = first_word(sets, place);
     }
@@ -76,8 +75,7 @@ fn forbid_by_rule<B: Book>(book: &B, rule: u8, sets: &[OptionSet], pairs: &mut [
 }
 
 // Writes the pairs that stand: of two options of different fields, if no rule forbids them. No word is left as it was.
-// That the sets are accepted over the book and the words enough is asked of three inner functions: a struct for it would
-// hold a book, sets and words only for the start.
+// That the sets are accepted and the words enough is asked here and of one rule alone, so it is no struct's.
 pub(crate) fn stand_at_start<B: Book>(book: &B, sets: &[OptionSet], pairs: &mut [OptionSet])
     requires accepted { Accepted (B.Book.meaning book.now) (words sets.now) }
     requires room { Room (length sets.now) (words pairs.old) }

@@ -1,11 +1,14 @@
 // Tightening.
 
-ghost use Rattle.std.specs.Prelude.{◌≡◌, ◌<◌, length, OnOk};
-ghost use Rattle.network.specs.Network.{words};
+ghost use Rattle.std.specs.Prelude.{◌≡◌, ◌<◌, ◌≤◌, true, false, length, vec_capacity, OnOk};
+ghost use Rattle.books.specs.Pairs.{pairs_of};
+ghost use Rattle.propagation.specs.Progress.{Filled};
+ghost use Rattle.network.specs.Network.{part, words};
 ghost use Rattle.agenda.specs.Waiting.{Nothing};
 ghost use Rattle.propagation.specs.Refusals.{answer};
 ghost use Rattle.propagation.specs.Opening.{Accepted};
-ghost use Rattle.tightening.specs.Start.{Room};
+ghost use Rattle.tightening.specs.Start.{Room, StayBeyond};
+ghost use Rattle.tightening.specs.Tightening.{Tightest, TightWipedOut};
 ghost use Rattle.tightening.specs.Done.{tighten_refusal, TightensCopy, Tightens};
 ghost use Rattle.tightening.specs.declared.tighten.Untightened.TheVariants as untightened;
 
@@ -18,7 +21,7 @@ use faults::EngineFault;
 use network::options::{OPTIONS, OptionSet};
 use network::rules::FIELDS;
 use propagation::opening::check_opening;
-use propagation::record::STRIKES;
+use propagation::record::Strike;
 use std::alloc::{AllocError, Global};
 
 // How many pair words the options of a field have.
@@ -70,7 +73,6 @@ pub fn check_tightening<B: Book>(
 }
 
 // Tightens a copy of the sets over just the pair words of their fields.
-// It takes what `tighten` takes, as `tighten_sets` does: a struct would be made there and taken apart here.
 fn tighten_copy<B: Book, W: Agenda, V: Agenda>(
     heap: Global,
     sets: &[OptionSet],
@@ -86,7 +88,7 @@ fn tighten_copy<B: Book, W: Agenda, V: Agenda>(
     ensures { TightensCopy (B.Book.meaning book.now) (words sets.now) (words pairs.old) result (words copy.new) (words pairs.new) }
 {
     let mut trial = Vec::from_slice(heap, sets)?;
-    let mut strikes = Vec::with_capacity(heap, STRIKES)?;
+    let mut strikes = Vec::with_capacity(heap, WORDS_A_FIELD)?;
     stand_at_start(book, sets, pairs);
     probes.clear();
     put_probes(probes, sets, sets);

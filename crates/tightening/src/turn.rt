@@ -39,8 +39,7 @@ pub(crate) struct Probing<'a> {
 impl<'a> Probing<'a> {
     // Probes an option; it is an error if its field then has none. The option is chosen on a copy. Where a field is then
     // emptied, the option can stand in nothing and goes with its pairs; else its pairs with what was struck go. Whatever
-    // was paired with it waits to be probed again. That the same memory stays lent is about two states, so each method says
-    // it.
+    // was paired with it waits to be probed again.
     pub(crate) fn turn<W: Agenda, V: Agenda>(
         &mut self,
         arcs: &mut W,

@@ -20,6 +20,10 @@ fn refusal(heap: Global, sets: &mut [OptionSet], pairs: &mut [OptionSet]) -> Opt
     }
 }
 
+fn all() -> OptionSet {
+    OptionSet::from(u32::MAX)
+}
+
 // What stands in a buffer beforehand.
 fn mark() -> OptionSet {
     OptionSet::from(0xA5A5)
@@ -30,7 +34,7 @@ fn mark() -> OptionSet {
 fn refuses_511_words_for_a_field(rt: HostRuntime) {
     let mut words = [mark(); 511];
     assert_eq!(rt;
-        refusal(rt.alloc(), &mut [OptionSet::from(u32::MAX)], &mut words),
+        refusal(rt.alloc(), &mut [all()], &mut words),
         Some(EngineFault::ShortBuffer)
     );
     for word in words {
@@ -42,17 +46,14 @@ fn refuses_511_words_for_a_field(rt: HostRuntime) {
 #[test]
 fn takes_512_words_for_a_field(rt: HostRuntime) {
     let mut exact = [mark(); 512];
-    assert_eq!(rt;
-        refusal(rt.alloc(), &mut [OptionSet::from(u32::MAX)], &mut exact),
-        None
-    );
+    assert_eq!(rt; refusal(rt.alloc(), &mut [all()], &mut exact), None);
     for word in exact {
         assert_eq!(rt; word, OptionSet::empty());
     }
     let mut longer = [mark(); 513];
-    let mut sets = [OptionSet::from(u32::MAX)];
+    let mut sets = [all()];
     assert_eq!(rt; refusal(rt.alloc(), &mut sets, &mut longer), None);
-    assert_eq!(rt; sets[0], OptionSet::from(u32::MAX));
+    assert_eq!(rt; sets[0], all());
     assert_eq!(rt; longer[511], OptionSet::empty());
     assert_eq!(rt; longer[512], mark());
 }

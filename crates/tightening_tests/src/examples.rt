@@ -10,7 +10,6 @@ use std::alloc::Global;
 use std::test::Fail;
 use tightening::tighten::{Untightened, tighten};
 
-// Each crate of tests has its own, beside its rules: a crate for one literal would be no plainer.
 fn rule(left: u8, right: u8, kind: Kind) -> FormulaRule {
     FormulaRule {
         left,
@@ -52,7 +51,6 @@ fn three_fields_that_differ(rt: HostRuntime) -> Result<(), Fail> {
     for set in sets {
         assert_eq!(rt; set, two);
     }
-    // Counted, since a slice of a lent array owes a proof of its own length.
     for i in 0..1536usize {
         assert_eq!(rt; pairs[i], OptionSet::empty());
     }

@@ -63,7 +63,7 @@ impl Agenda for FirstCome {
         Some(number.value)
     }
 
-    // The other agenda clears itself by its constructor too; a body in the trait would need a constructor in the trait.
+    // In the words of the other agenda: one body for both, in the trait, would need a constructor there.
     fn clear(&mut self)
         ensures waiting { Nothing (among (line self.new)) }
         ensures order { line self.new ≡ [] }

@@ -41,8 +41,7 @@ impl<'a, T: Copy> LentVec<'a, T> {
         &places[..filled]
     }
 
-    // Enters a value in the first free place; no where there is none. Yes or no says all, here and below: there is one
-    // reason for a no, and a caller refuses for its own.
+    // Enters a value in the first free place; no where there is none.
     pub fn push(&mut self, value: T) -> bool
         ensures answer { result ≡ nat_lt 0 (length (held self.old).free) }
         ensures after { held self.new ≡ (if result then added (held self.old) value else held self.old) }

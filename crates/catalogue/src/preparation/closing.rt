@@ -1,6 +1,7 @@
 // Closing a catalogue.
 
-ghost use Rattle.std.specs.Prelude.{◌≡◌, Some, None, MatchResult};
+ghost use Rattle.std.specs.Prelude.{◌≡◌, ◌++◌, Some, None, MatchResult};
+ghost use Rattle.network.specs.Network.{words};
 ghost use Rattle.propagation.specs.Refusals.{answer};
 ghost use Rattle.catalogue.specs.Content.{closing_refusal};
 ghost use Rattle.catalogue.specs.View.{content};

@@ -1,8 +1,7 @@
 // The calls on a draft: each is made on what was opened, or refused where the opening was.
 //
-// Field and option stay two numbers: a call is no decision yet, and `perform` takes them apart only to make the call.
-// That book and agenda stay is said of each call but a settle: it is about two states, so no type can say it.
-// Each call tests for itself what was opened: a function that lends it out by `&mut` has no clause on what it leaves.
+// A decision's field and option come as two numbers, since that is how a caller has them; `Call` and `Decision` hold them
+// together. That book and agenda stay is said of each call but a settle: it is about two states, so no type can say it.
 
 ghost use Rattle.std.specs.Prelude.{◌≡◌};
 ghost use Rattle.agenda.specs.Waiting.{Nothing};
@@ -61,7 +60,7 @@ impl<B: Book, W: Agenda> Draft<B, W> {
 
     // Leaves the largest arc-consistent part of what stands, and tells how many options it struck and how many now
     // stand. Where a field would become empty nothing changes, and the fault names the field and a rule of it.
-    // A rule of the project: a settle of a draft answers a tuple of two counts.
+    // The two counts are a tuple: what a settle answers everywhere in the project.
     pub fn settle(&mut self) -> Result<(u16, u16), EngineFault>
         ensures meaning { B.Book.meaning self.new.book ≡ B.Book.meaning self.old.book }
         ensures waiting { Nothing (W.Agenda.waiting self.new.agenda) }

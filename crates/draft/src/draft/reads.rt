@@ -25,8 +25,7 @@ impl Opened {
 }
 
 impl<B: Book, W: Agenda> Draft<B, W> {
-    // The set of each field at the opening, also where it was refused. Each reader takes apart what was opened, since each
-    // lends another list.
+    // The set of each field at the opening, also where it was refused.
     pub fn opening(&self) -> &[OptionSet]
         ensures { words result.now ≡ (view self.now).opening }
     {

@@ -1,10 +1,11 @@
-use Rattle.std.proofs.Common.{◌≡◌, ℕ, ◌-◌, ◌^◌, ◌≤◌, true, false, cond, not, ◌&&◌, T, eqb, [], ◌∷◌, ◌++◌, length, vec_items, sym, refl, ap, ◌∙◌, subst, arith}
+use Rattle.std.proofs.Common.{◌≡◌, ℕ, ◌-◌, ◌^◌, ◌<◌, ◌≤◌, true, false, cond, not, ◌&&◌, T, eqb, [], ◌∷◌, ◌++◌, length, vec_items, sym, refl, ap, ◌∙◌, subst, arith}
+use Rattle.std.proofs.lemmas.Nat.{pow_pos}
 use Rattle.std.proofs.lemmas.List.{append_assoc, append-nil, length-append}
 use Rattle.std.proofs.lemmas.Bool.{eq-eqb}
 use Rattle.network.specs.Network.{option_limit, has}
 use Rattle.network.specs.Sets.{set_without}
 use Rattle.network.proofs.Truth.{T_no, and_false}
-use Rattle.network.proofs.Bits.{has_less, has_below}
+use Rattle.network.proofs.Bits.{has_le, has_less, has_below}
 use Rattle.network.proofs.Masks.{has_without}
 use Rattle.draft.specs.Draft.{choose_strikes}
 use Rattle.draft.proofs.Choosing.{chosen_out, none_struck, others_struck, lowest_first}
@@ -54,6 +55,13 @@ loop-other-preserved c =
       fits = omega (arith, after, inv.fits);
       others = ap (λ v. has v a) after ∙ has_less w low a least.0 ∙ ap (λ h. h && not (eqb a low)) inv.others;
     }
+
+pub loop-other-smaller : goal.loop-other-smaller
+loop-other-smaller c =
+    let w = c.loop-other.others.word in
+    let low = c.in-Some.other in
+    let fall : w - 2 ^ low < w = omega (arith, has_le w low c.in-Some.ensures.least.0, pow_pos low) in
+    subst (λ v. v < w) (sym c.in-Some.ensures.after) fall
 
 pub loop-other-init : goal.loop-other-init
 loop-other-init c =

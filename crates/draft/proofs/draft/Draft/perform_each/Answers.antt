@@ -1,11 +1,16 @@
-use Rattle.std.proofs.Common.{List, [], ◌∷◌, ◌++◌, get_or, take, vec_items, sym, ◌∙◌, subst, arith}
-use Rattle.std.proofs.lemmas.List.{take_more}
+use Rattle.std.proofs.Common.{◌≡◌, List, [], ◌∷◌, ◌++◌, get_or, take, vec_items, sym, refl, ◌∙◌, subst, arith}
+use Rattle.std.proofs.lemmas.List.{take_more, take_all}
 use Rattle.network.specs.Network.{Rule}
 use Rattle.draft.specs.Replay.{Performed}
 use Rattle.draft.specs.View.{Answers}
 use Rattle.draft.specs.declared.types.Call.TheVariants as call
-use Rattle.draft.proofs.Replays.{performed_more}
+use Rattle.draft.proofs.Replays.{performed_none, performed_more}
 use Rattle.draft.proofs.draft.Draft.perform_each.Goals as goal
+
+pub loop-call-init : goal.loop-call-init
+loop-call-init g c =
+    let d = c.args.self.now in
+    (refl, (c.requires.empty, (c.requires.room, performed_none (g.B.Book.meaning d.book) d (vec_items c.args.answers.now) (omega (arith, c.requires.empty, c.args.answers.now.ok.0)))))
 
 pub loop-call-preserved : goal.loop-call-preserved
 loop-call-preserved g c =
@@ -31,3 +36,10 @@ loop-call-preserved g c =
         ),
       ),
     )
+
+pub returns : goal.returns
+returns g c =
+    let inv = c.loop-call.invariant in
+    let d = c.args.self.now in
+    let all : take c.loop-call.call-index c.args.calls.now ≡ c.args.calls.now = take_all _ _ (omega arith) in
+    record { meaning = inv.0; performed = subst (λ l. Performed (g.B.Book.meaning d.book) d l (vec_items c.loop-call.answers) c.loop-call.self) all inv.1.1.1 }

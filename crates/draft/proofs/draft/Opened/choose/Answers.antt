@@ -10,7 +10,7 @@ use Rattle.draft.specs.Sound.{Sound, state_of}
 use Rattle.draft.specs.View.{held, Found}
 use Rattle.draft.specs.declared.draft.Opened.{Opened}
 use Rattle.draft.specs.declared.types.Taken.{Taken}
-use Rattle.draft.proofs.Drafts.{others_stood, has_room, sound_chosen}
+use Rattle.draft.proofs.Drafts.{opening_length, standing_long, standing_fit, others_stood, has_room, sound_chosen}
 use Rattle.draft.proofs.Steps.{same_state, chooses}
 use Rattle.draft.proofs.draft.Opened.choose.Goals as goal
 
@@ -24,13 +24,19 @@ chosen o x a set' only mark taken strikes f is at et ek =
     (ek ∙ ap (λ w. vec_items o.strikes ++ choose_strikes w x a) f.word)
     (words_set (vec_items o.standing) x only ∙ ap (set (held o).standing x) (is ∙ alone_is a f.option))
 
-pub strike_others-requires-clause-room : goal.strike_others-requires-clause-room
-strike_others-requires-clause-room c =
+pub strike_others-requires : goal.strike_others-requires
+strike_others-requires c =
     let o = c.args.self.now in
     let x = c.args.field in
     let a = c.args.option in
     let f = c.in_ok-set.ensures in
-    omega (arith, o.room, o.strikes.ok.0, has_room (held o) o.sound _ (others_stood (held o) o.sound x a f.stands), ap (λ w. length (choose_strikes w x a)) f.word)
+    record {
+      fits = omega (arith, f.word, standing_fit (held o) o.sound x);
+      room = omega (arith, o.room, o.strikes.ok.0, has_room (held o) o.sound _ (others_stood (held o) o.sound x a f.stands), ap (λ w. length (choose_strikes w x a)) f.word);
+    }
+
+pub index_mut-requires : goal.index_mut-requires
+index_mut-requires c = let o = c.args.self.now in omega (arith, standing_long o, opening_length o, c.in_ok-set.ensures.field)
 
 pub invariant_of-self : goal.invariant_of-self
 invariant_of-self c =

@@ -11,8 +11,8 @@ use Rattle.draft.specs.Sound.{Sound, state_of}
 use Rattle.draft.specs.View.{held, Found}
 use Rattle.draft.specs.declared.draft.Opened.{Opened}
 use Rattle.draft.specs.declared.types.Taken.{Taken}
-use Rattle.draft.proofs.Drafts.{others_are, is_not_last, filled_less, has_room, sound_decided}
-use Rattle.draft.proofs.Steps.{same_state, excludes}
+use Rattle.draft.proofs.Drafts.{opening_length, standing_long, others_are, is_last, is_not_last, filled_less, has_room, sound_decided}
+use Rattle.draft.proofs.Steps.{same_state, excludes_last, excludes}
 use Rattle.draft.proofs.draft.Opened.exclude.Goals as goal
 
 -- what is then held
@@ -25,10 +25,19 @@ excluded o x a set' others mark taken strikes f less at et ek =
     ek
     (words_set (vec_items o.standing) x others ∙ ap (set (held o).standing x) (others_are (held o) o.sound x a set' f _ less))
 
+pub returns-then-is_empty : goal.returns-then-is_empty
+returns-then-is_empty c rules =
+    let o = c.args.self.now in
+    let f = c.in_ok-set.ensures in
+    excludes_last rules (held o) c.args.field c.args.option f.field f.option f.stands (is_last (held o) o.sound c.args.field c.args.option _ f _ c.without-others.ensures c.if-is_empty.ensures)
+
 pub push_reserved-requires : goal.push_reserved-requires
 push_reserved-requires c =
     let o = c.args.self.now in
     omega (arith, o.room, o.strikes.ok.0, has_room (held o) o.sound (exclude_strike c.args.field c.args.option ∷ []) (and_from _ true c.in_ok-set.ensures.stands refl))
+
+pub index_mut-requires : goal.index_mut-requires
+index_mut-requires c = let o = c.args.self.now in omega (arith, standing_long o, opening_length o, c.in_ok-set.ensures.field)
 
 pub invariant_of-self : goal.invariant_of-self
 invariant_of-self c =

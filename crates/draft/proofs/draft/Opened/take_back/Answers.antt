@@ -11,7 +11,7 @@ use Rattle.draft.specs.View.{held}
 use Rattle.draft.specs.declared.draft.Opened.{Opened}
 use Rattle.draft.specs.declared.types.Taken.{Taken}
 use Rattle.draft.proofs.Drafts.{standing_back, sound_back}
-use Rattle.draft.proofs.Steps.{same_state}
+use Rattle.draft.proofs.Steps.{same_state, takes_back}
 use Rattle.draft.proofs.draft.Opened.take_back.Goals as goal
 
 -- what is then held
@@ -37,3 +37,13 @@ invariant_of-self-2 c =
     let is = taken_back o some _ _ c.put_back.new.sets _ _ _ (sym popped ∙ c.pop.ensures.value _ long) c.as_mut_slice.ensures.value (c.put_back.auto.sets ∙ c.as_mut_slice.ensures.len) c.as_slice.ensures.value
     c.put_back.ensures.after c.truncate.ensures.items c.pop.ensures.rest in
     record { sound = subst Sound (sym is) (sound_back (held o) o.sound some); room = omega (arith, o.room, c.truncate.ensures.capacity); places = omega (arith, o.places, c.pop.ensures.capacity) }
+
+pub returns : goal.returns
+returns c rules =
+    let o = c.args.self.now in
+    let popped = c.in_ok-last.ensures.ok_part in
+    let long : 0 < vec_len o.taken = c.pop.ensures.variant.0 (ap is_some popped) in
+    let some : 0 < length (vec_items o.taken) = omega (arith, o.taken.ok.0) in
+    takes_back rules (held o) some _
+    (taken_back o some _ _ c.put_back.new.sets _ _ _ (sym popped ∙ c.pop.ensures.value _ long) c.as_mut_slice.ensures.value (c.put_back.auto.sets ∙ c.as_mut_slice.ensures.len) c.as_slice.ensures.value
+    c.put_back.ensures.after c.truncate.ensures.items c.pop.ensures.rest)

@@ -12,8 +12,7 @@ use Rattle.network.proofs.Words.{length_words, word_of, words_set}
 use Rattle.books.specs.Pairs.{pairs_of, pair_rules}
 use Rattle.propagation.specs.Strikes.{without}
 use Rattle.tightening.specs.Outcomes.{Tried}
-use Rattle.propagation.proofs.Strikes.{is_field}
-use Rattle.tightening.proofs.Sets.{all_empty}
+use Rattle.tightening.proofs.Sets.{field_within, all_empty}
 use Rattle.tightening.proofs.Turning.{fits_are, chosen, between_skip, between_kept, between_lost, between_struck, filled_without}
 use Rattle.tightening.proofs.turn.Probing.turn.Goals.{then-x-self-via-then-x-self, then-x-self-via-else-x-self+then-not-contains}
 use Rattle.tightening.proofs.turn.Probing.turn.Goals as goal
@@ -24,7 +23,7 @@ returns-then-x-self-clause-between g c =
     let probe = c.args.probe in
     let gone : T (part (words sets) probe.field probe.option) → ⊥ =
     elim c.then-x-self.branch [
-      | then-x-self-via-then-x-self w ↦ λ t. absurd (omega (arith, is_field (words sets) probe.field probe.option t, length_words sets, c.from-x.ensures, w.if-x-self.true))
+      | then-x-self-via-then-x-self w ↦ λ t. absurd (omega (arith, field_within (words sets) probe.field probe.option t, length_words sets, c.from-x.ensures, w.if-x-self.true))
       | then-x-self-via-else-x-self+then-not-contains w ↦
           let inside : c.from-x.result < length sets = omega (arith, w.if-x-self.false) in
           λ t. T_no _ (sym w.contains.ensures ∙ w.if-not-contains.true)
