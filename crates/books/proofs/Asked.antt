@@ -4,12 +4,12 @@ use Rattle.std.specs.Option.{option_map_or}
 use Rattle.std.proofs.Math.Bool.{and_comm}
 use Rattle.std.proofs.lemmas.Bool.{cond-true, cond-false, lt-ltb, le-ltb, cases_lt}
 use Rattle.std.proofs.lemmas.List.{get_or_past, get_or_append_left, get_or-append_right}
-use Rattle.network.specs.Network.{option_limit, rule_limit, no_field, Rule, rule_at, no_rule, has}
+use Rattle.network.specs.Network.{option_limit, rule_limit, Rule, rule_at, no_rule, has}
 use Rattle.network.specs.declared.rules.Side.{Side}
 use Rattle.network.specs.declared.rules.Side.TheVariants.{Left, Right}
 use Rattle.network.proofs.Truth.{no_T, T_no, and_T, T_left, T_right, same_test}
 use Rattle.network.proofs.Bits.{has_below}
-use Rattle.books.specs.Reads.{asked, listed, permits, permits_on, allowed, allowed_on}
+use Rattle.books.specs.Reads.{asked, listed, between_fields, permits, permits_on, allowed, allowed_on}
 
 -- one of the first 128
 pub asked_is : (rules : List Rule) (r : ℕ) → r < rule_limit → asked rules r ≡ rule_at rules r
@@ -60,9 +60,6 @@ none_allowed rules r e Right a b = allowed_by rules r no_rule e b a
 abbrev pub allows_on : Rule → Side → ℕ → ℕ → Bool
 allows_on rule Left a b = rule.allows a b
 allows_on rule Right a b = rule.allows b a
-
-abbrev pub between_fields : Rule → Bool
-between_fields rule = ltb rule.left no_field && ltb rule.right no_field
 
 -- the same whatever the side
 permits_is : (rule : Rule) (side : Side) (a b : ℕ) → permits_on rule side a b ≡ (between_fields rule && ((ltb a option_limit && ltb b option_limit) && allows_on rule side a b))

@@ -5,4 +5,4 @@ pub mod Differences
 pub mod Tables
 pub mod Pairing
 pub mod PairBooks
-pub mod Residues
+pub mod Keeping

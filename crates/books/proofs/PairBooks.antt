@@ -9,9 +9,9 @@ use Rattle.network.specs.declared.rules.Side.{Side}
 use Rattle.network.specs.declared.rules.Side.TheVariants.{Left, Right}
 use Rattle.network.proofs.Truth.{yes_T, T_yes, and_T, T_left, T_right}
 use Rattle.network.proofs.Bits.{has_below}
-use Rattle.books.specs.Reads.{asked, permits, permits_on, Found}
+use Rattle.books.specs.Reads.{asked, between_fields, permits, permits_on, Found}
 use Rattle.books.specs.Pairs.{word_at, pairs_of, pair_rule, rule_between, pair_rules, triangle, pair_at, PairEnds, both_orders}
-use Rattle.books.proofs.Asked.{asked_is, asked_past, allows_on, between_fields, permits_at}
+use Rattle.books.proofs.Asked.{asked_is, asked_past, allows_on, permits_at}
 use Rattle.books.proofs.Pairing.{rule_of, rule_is, rules_length, triangle_few, triangle_twice, ends_order, ends_below}
 use Rattle.books.proofs.Found.{found_like}
 

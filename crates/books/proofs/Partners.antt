@@ -2,8 +2,8 @@
 use Rattle.std.proofs.Common.{◌≡◌, ℕ, false, ◌&&◌, ltb, List, None, Option, sym, subst}
 use Rattle.network.specs.Network.{option_limit, Rule, no_rule}
 use Rattle.network.specs.declared.rules.Side.{Side}
-use Rattle.books.specs.Reads.{asked, permits_on, allowed_on, Found, Partner}
-use Rattle.books.proofs.Asked.{allowed_on_by, allowed_on_like, none_allowed, between_fields, permits_out}
+use Rattle.books.specs.Reads.{asked, between_fields, permits_on, allowed_on, Found, Partner}
+use Rattle.books.proofs.Asked.{allowed_on_by, allowed_on_like, none_allowed, permits_out}
 use Rattle.books.proofs.Found.{found_like, found_none}
 
 -- none where there is no rule

@@ -1,16 +1,17 @@
 -- The rules of a table book.
-use Rattle.std.proofs.Common.{◌≡◌, ℕ, zero, suc, ◌+◌, ◌^◌, ◌<◌, Bool, true, false, ◌&&◌, T, ltb, List, [], ◌∷◌, length, slice_get, Option, sym, refl, ap, ◌∙◌, subst, arith, lt→ltb}
+use Rattle.std.proofs.Common.{◌≡◌, ℕ, zero, suc, ◌+◌, ◌^◌, ◌<◌, Bool, true, false, ◌&&◌, T, ltb, List, [], ◌∷◌, length, slice_get, Some, None, Option, sym, refl, ap, ◌∙◌, subst, inl, inr, arith, lt→ltb}
 use Rattle.std.specs.Option.{option_map_or}
+use Rattle.std.proofs.lemmas.Bool.{cases_lt, both_ways, lt-ltb, cond-true}
 use lib.Bits.{bit_and}
-use Rattle.network.specs.Network.{option_limit, has, rule_at, no_rule}
+use Rattle.network.specs.Network.{option_limit, rule_limit, has, rule_at, no_rule}
 use Rattle.network.specs.Sets.{Lowest}
 use Rattle.network.specs.declared.rules.Side.{Side}
 use Rattle.network.specs.declared.rules.Side.TheVariants.{Left, Right}
 use Rattle.network.proofs.Bits.{has_and, has_below}
 use Rattle.network.specs.declared.rules.Ends.{Ends}
-use Rattle.books.specs.Reads.{asked, listed, permits_on, Found}
-use Rattle.books.specs.Table.{row_of, table_rule, table_rules_from, table_rules}
-use Rattle.books.proofs.Asked.{asked_made, between_fields, permits_at, permits_in}
+use Rattle.books.specs.Reads.{asked, listed, between_fields, permits_on, Found}
+use Rattle.books.specs.Table.{row_of, table_rule, table_rules_from, table_rules, ends_at, fields_at}
+use Rattle.books.proofs.Asked.{asked_made, asked_high, asked_past, permits_at, permits_in}
 use Rattle.books.proofs.Found.{found_lowest, found_like}
 
 from_length : (first : ℕ) (ends : List Ends) (rows : List ℕ) → length (table_rules_from first ends rows) ≡ length ends
@@ -31,6 +32,31 @@ pub asked_table : (ends : List Ends) (rows : List ℕ) (r : ℕ) → asked (tabl
 asked_table ends rows r =
     let same : 0 + r ≡ r = omega arith in
     asked_made (table_rule rows r) (table_rules ends rows) ends r (made_from 0 ends rows r ∙ ap (λ k. option_map_or (table_rule rows k) (slice_get ends r) no_rule) same)
+
+ends_there : (ends : List Ends) (r : ℕ) → r < length ends → slice_get ends r ≡ Some (ends_at ends r)
+ends_there [] r lt = absurd (omega arith)
+ends_there (e ∷ ends) zero lt = refl
+ends_there (e ∷ ends) (suc r) lt = ends_there ends r (omega arith)
+
+asked_there : (ends : List Ends) (rows : List ℕ) (r : ℕ) → r < rule_limit → r < length ends → asked (table_rules ends rows) r ≡ table_rule rows r (ends_at ends r)
+asked_there ends rows r small lt =
+    asked_table ends rows r
+    ∙ ap (λ o. option_map_or (table_rule rows r) o no_rule) (cond-true (ltb r rule_limit) (slice_get ends r) None (lt-ltb r rule_limit small) ∙ ends_there ends r lt)
+
+-- a rule of the table lies between fields if its ends do
+pub fields_known : (ends : List Ends) (rows : List ℕ) (r : ℕ) → r < rule_limit → r < length ends → fields_at ends r ≡ between_fields (asked (table_rules ends rows) r)
+fields_known ends rows r small lt = sym (ap between_fields (asked_there ends rows r small lt))
+
+-- a rule between fields is one of the table
+pub between_tabled : (ends : List Ends) (rows : List ℕ) (r : ℕ) → between_fields (asked (table_rules ends rows) r) ≡ true → asked (table_rules ends rows) r ≡ table_rule rows r (ends_at ends r)
+between_tabled ends rows r e =
+    elim (cases_lt r rule_limit) [
+      | inl small ↦ elim (cases_lt r (length ends)) [
+        | inl lt ↦ asked_there ends rows r small lt
+        | inr ge ↦ absurd (both_ways _ (ap between_fields (asked_past (table_rules ends rows) r (omega (arith, ge, table_length ends rows)))) e)
+      ]
+      | inr high ↦ absurd (both_ways _ (ap between_fields (asked_high (table_rules ends rows) r high)) e)
+    ]
 
 true_and : (x y : Bool) → T x → (x && y) ≡ y
 true_and true y t = refl

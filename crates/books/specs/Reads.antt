@@ -16,9 +16,13 @@ asked rules r = cond (nat_lt r rule_limit) (rule_at rules r) no_rule
 abbrev pub listed : {X : Type 0} → List X → ℕ → Option X
 listed entries r = cond (nat_lt r rule_limit) (slice_get entries r) None
 
+-- a rule lies between two fields
+abbrev pub between_fields : Rule → Bool
+between_fields rule = nat_lt rule.left no_field && nat_lt rule.right no_field
+
 -- a rule between two fields allows a pair of options that fields can have, the left option first
 abbrev pub permits : Rule → ℕ → ℕ → Bool
-permits rule a b = (nat_lt rule.left no_field && nat_lt rule.right no_field) && ((nat_lt a option_limit && nat_lt b option_limit) && rule.allows a b)
+permits rule a b = between_fields rule && ((nat_lt a option_limit && nat_lt b option_limit) && rule.allows a b)
 
 -- the same, a being the option on that side and b the one across
 abbrev pub permits_on : Rule → Side → ℕ → ℕ → Bool

@@ -14,6 +14,7 @@ pub mod joined;
 mod lent;
 pub mod pair;
 pub mod remembering;
+mod residues;
 mod sides;
 pub mod table;
 #[cfg(test)]

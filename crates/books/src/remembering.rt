@@ -2,43 +2,41 @@
 
 ghost use Rattle.std.specs.Prelude.{◌≡◌, replicate, None};
 ghost use Rattle.books.specs.Reads.{Partner};
-ghost use Rattle.books.specs.Residues.{residue_count, residue_place, kept_after, TellsKept, Serves, InTable};
+ghost use Rattle.books.specs.Residues.{residue_count, partners_in, kept_for, kept_after, TellsKept, Serves};
 
 use super::book::Book;
+use super::residues::Residues;
 use super::sides::placed;
 use network::options::{OPTIONS, OptionSet};
-use network::rules::{Arc, Ends, RULES, Side};
-
-// One residue for each rule, side and option. Fixed memory: making a book cannot fail, so the table is an array in it.
-const RESIDUES: usize = RULES as usize * 2 * OPTIONS as usize;
+use network::rules::{Arc, Ends, RULES};
 
 // A book over any book, with the same meaning. It keeps for each rule, side and option the last partner that it told, its residue,
 // and tells that one again where it still serves.
 #[derive(Drop)]
 pub struct Remembering<B: Book> {
     book: B,
-    kept: [Option<u8>; RESIDUES],
+    residues: Residues,
 }
 
 impl<B: Book> Remembering<B> {
     pub fn new(book: B) -> Remembering<B>
         ensures book { result.book ≡ book }
-        ensures kept { result.kept ≡ replicate residue_count None }
+        ensures kept { partners_in result.residues ≡ replicate residue_count None }
     {
         Remembering {
             book,
-            kept: [None; RESIDUES],
+            residues: Residues::new(),
         }
     }
 
     // The residue of an option, if it is in the set and still allowed.
     fn serving(&self, arc: Arc, option: u8, set: OptionSet) -> Option<u8>
-        ensures { Serves self.now.kept (B.Book.meaning self.now.book) arc.side arc.rule option set.word result }
+        ensures { Serves (partners_in self.now.residues) (B.Book.meaning self.now.book) arc.side arc.rule option set.word result }
     {
         if arc.rule >= RULES || option >= OPTIONS {
             return None;
         }
-        let other = self.kept[residue_place(arc, option)]?;
+        let other = self.residues.kept(arc, option)?;
         let (left, right) = placed(arc.side, option, other);
         if set.contains(other) && self.book.allows(arc.rule, left, right) {
             return Some(other);
@@ -46,41 +44,20 @@ impl<B: Book> Remembering<B> {
         None
     }
 
-    // The residue if it serves, and else what the book tells.
+    // The residue if it serves, and else what the book tells, which is then kept for the option: a residue that serves is kept already.
     fn tell(&mut self, arc: Arc, option: u8, set: OptionSet) -> Option<u8>
         ensures same { B.Book.meaning self.new.book ≡ B.Book.meaning self.old.book }
         ensures found { Partner (B.Book.meaning self.old.book) arc.side arc.rule option set.word result }
-        ensures tells { TellsKept self.old.kept (B.Book.meaning self.old.book) arc.side arc.rule option set.word result }
-        ensures kept { self.new.kept ≡ self.old.kept }
+        ensures tells { TellsKept (partners_in self.old.residues) (B.Book.meaning self.old.book) arc.side arc.rule option set.word result }
+        ensures kept { partners_in self.new.residues ≡ kept_for (partners_in self.old.residues) arc.side arc.rule option result }
     {
-        if let Some(other) = self.serving(arc, option, set) {
-            return Some(other);
+        if let Some(partner) = self.serving(arc, option, set) {
+            return Some(partner);
         }
-        self.book.partner(arc, option, set)
+        let partner = self.book.partner(arc, option, set)?;
+        self.residues.keep(arc, option, partner);
+        Some(partner)
     }
-
-    // Keeps an answer: the partner for the option, and across the rule the option for the partner.
-    fn keep(&mut self, arc: Arc, option: u8, answer: Option<u8>)
-        requires { InTable arc.rule option answer }
-        ensures book { self.new.book ≡ self.old.book }
-        ensures kept { self.new.kept ≡ kept_after self.old.kept arc.side arc.rule option answer }
-    {
-        if let Some(other) = answer {
-            self.kept[residue_place(arc, option)] = Some(other);
-            self.kept[residue_place(arc.across(), other)] = Some(option);
-        }
-    }
-}
-
-// The place of a residue in the table.
-fn residue_place(arc: Arc, option: u8) -> usize
-    ensures { result ≡ residue_place arc.side arc.rule option }
-{
-    let number = match arc.side {
-        Side::Left => 0,
-        Side::Right => 1,
-    };
-    (usize::from(arc.rule) * 2 + number) * usize::from(OPTIONS) + usize::from(option)
 }
 
 impl<B: Book> Book for Remembering<B> {
@@ -101,11 +78,11 @@ impl<B: Book> Book for Remembering<B> {
     fn partner(&mut self, arc: Arc, option: u8, set: OptionSet) -> Option<u8>
         ensures same { B.Book.meaning self.new.book ≡ B.Book.meaning self.old.book }
         ensures found { Partner (B.Book.meaning self.old.book) arc.side arc.rule option set.word result }
-        ensures tells { TellsKept self.old.kept (B.Book.meaning self.old.book) arc.side arc.rule option set.word result }
-        ensures kept { self.new.kept ≡ kept_after self.old.kept arc.side arc.rule option result }
+        ensures tells { TellsKept (partners_in self.old.residues) (B.Book.meaning self.old.book) arc.side arc.rule option set.word result }
+        ensures kept { partners_in self.new.residues ≡ kept_after (partners_in self.old.residues) arc.side arc.rule option result }
     {
-        let answer = self.tell(arc, option, set);
-        self.keep(arc, option, answer);
-        answer
+        let partner = self.tell(arc, option, set)?;
+        self.residues.keep(arc.across(), partner, option);
+        Some(partner)
     }
 }

@@ -25,7 +25,7 @@ use Rattle.propagation.proofs.Steps.{progress_shrinks, progress_sound, support_s
 use Rattle.propagation.proofs.Puts.{taken_off, taken_same}
 
 -- an arc has one number
-same_arc : (r q : ℕ) (s t : Side) → number_of r s ≡ number_of q t → (r ≡ q) × (s ≡ t)
+pub same_arc : (r q : ℕ) (s t : Side) → number_of r s ≡ number_of q t → (r ≡ q) × (s ≡ t)
 same_arc r q Left Left e = (omega arith, refl)
 same_arc r q Left Right e = absurd (omega arith)
 same_arc r q Right Left e = absurd (omega arith)

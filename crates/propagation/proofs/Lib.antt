@@ -7,3 +7,5 @@ pub mod Steps
 mod Puts
 pub mod Ends
 mod Deciding
+mod Chaining
+mod Neighbours

@@ -1,12 +1,11 @@
 -- What waits after arcs were put, and after one was taken.
 use Rattle.std.proofs.Common.{◌≡◌, ℕ, ◌+◌, ◌*◌, ◌<◌, Bool, true, false, not, ◌&&◌, ◌||◌, eqb, List, sym, refl, ap, ◌∙◌, subst, inl, inr, arith}
 use Rattle.std.proofs.lemmas.Bool.{cases_eq, cases_Bool, eq-eqb, ne_eqb, or_left, or_right, cond-true, cond-false}
-use Rattle.network.specs.declared.rules.Ends.{Ends}
 use Rattle.network.specs.declared.rules.Side.{Side}
 use Rattle.network.specs.declared.rules.Side.TheVariants.{Left, Right}
 use Rattle.agenda.specs.Waiting.{Waiting, Same, without}
 use Rattle.agenda.specs.Jobs.{put_job}
-use Rattle.propagation.specs.Arcs.{listed_across, number_of, Neighbours, Still}
+use Rattle.propagation.specs.Arcs.{number_of, Still}
 
 -- a number was put, if it was wanted
 module _ (w w' : Waiting) (wanted : Bool) (n : ℕ) (put : Same (put_job w wanted n) w') where
@@ -59,22 +58,6 @@ module _ (w w₁ w₂ : Waiting) (r : ℕ) (l m : Bool) (one : Same (put_job w l
       here : (side : Side) → w₂ (number_of r side) ≡ true
       here Left = left_on le
       here Right = right_on me
-
-  -- every arc of the rules up to r that lies across from a field, but for those of one rule
-  pub neighbours_next : (ends : List Ends) (x but : ℕ) →
-      ((r ≡ but → ⊥) → listed_across ends Left r ≡ x → l ≡ true) → ((r ≡ but → ⊥) → listed_across ends Right r ≡ x → m ≡ true) →
-      Neighbours ends r x but w → Neighbours ends (r + 1) x but w₂
-  neighbours_next ends x but le me before q side lt other e =
-      elim (cases_eq q r) [
-        | inl same ↦
-            subst (λ z. w₂ (number_of z side) ≡ true) (sym same)
-            (here side (λ f. other (same ∙ f)) (subst (λ z. listed_across ends side z ≡ x) same e))
-        | inr ne ↦ both_still _ (before q side (omega arith) other e)
-      ]
-    where
-      here : (side : Side) → (r ≡ but → ⊥) → listed_across ends side r ≡ x → w₂ (number_of r side) ≡ true
-      here Left o f = left_on (le o f)
-      here Right o f = right_on (me o f)
 
 -- a number was taken
 module _ (w w' : Waiting) (n : ℕ) (taken : Same (without w n) w') where

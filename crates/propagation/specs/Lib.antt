@@ -7,3 +7,4 @@ pub mod Progress
 pub mod Turns
 pub mod Examples
 pub mod Standing
+pub mod Chains

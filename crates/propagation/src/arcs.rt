@@ -1,11 +1,12 @@
 // Arcs on an agenda: which wait, and how urgent they are.
 
-ghost use Rattle.std.specs.Prelude.{◌≡◌, ◌<◌, ◌≤◌, ◌==◌, ◌&&◌, not, length};
-ghost use Rattle.network.specs.Network.{rule_limit};
+ghost use Rattle.std.specs.Prelude.{◌≡◌, ◌<◌, ◌≤◌, ◌==◌, not, length};
+ghost use Rattle.network.specs.Network.{field_limit, rule_limit};
 ghost use Rattle.agenda.specs.Waiting.{Nothing, Same, with_one};
-ghost use Rattle.agenda.specs.Jobs.{put_job};
-ghost use Rattle.propagation.specs.Arcs.{number_of, end_on, end_across, placed, Listed, BetweenFields, OnlyBelow, AllBelow, Neighbours, Still};
+ghost use Rattle.agenda.specs.Jobs.{arc_number, put_job};
+ghost use Rattle.propagation.specs.Arcs.{number_of, end_on, placed, Listed, BetweenFields, OnlyBelow, AllBelow, Neighbours, Still};
 
+use crate::chains::Links;
 use agenda::agenda::Agenda;
 use agenda::job::put_job;
 use books::book::Book;
@@ -56,22 +57,14 @@ fn put_arc<W: Agenda>(sets: &[OptionSet], agenda: &mut W, rule: u8, side: Side, 
     let _ = put_job(agenda, arc, sets[place.own as usize].len());
 }
 
-// Lets such an arc wait if the field that was just revised lies across from it, but not along the same rule.
-fn put_neighbour<W: Agenda>(
-    sets: &[OptionSet],
-    agenda: &mut W,
-    rule: u8,
-    side: Side,
-    ends: Ends,
-    revised: PlacedArc,
-)
-    requires rule { rule < rule_limit }
-    requires field { end_on ends side < length sets.now }
-    ensures { Same (put_job (W.Agenda.waiting agenda.old) (not (rule == revised.arc.rule) && end_across ends side == revised.own) (number_of rule side)) (W.Agenda.waiting agenda.new) }
+// Lets an arc of a rule with these ends wait, unless it is one of the rule that was just revised.
+fn put_neighbour<W: Agenda>(sets: &[OptionSet], agenda: &mut W, arc: Arc, ends: Ends, revised: u8)
+    requires rule { arc.rule < rule_limit }
+    requires field { end_on ends arc.side < length sets.now }
+    ensures { Same (put_job (W.Agenda.waiting agenda.old) (not (arc.rule == revised)) (arc_number arc)) (W.Agenda.waiting agenda.new) }
 {
-    let place = PlacedArc::new(Arc { rule, side }, ends);
-    if rule != revised.arc.rule && place.across == revised.own {
-        put_arc(sets, agenda, rule, side, ends);
+    if arc.rule != revised {
+        put_arc(sets, agenda, arc.rule, arc.side, ends);
     }
 }
 
@@ -92,18 +85,26 @@ pub fn put_all<W: Agenda>(sets: &[OptionSet], ends: &[Ends], agenda: &mut W)
 // from the field was nobody's partner there.
 pub fn put_neighbours<W: Agenda>(
     sets: &[OptionSet],
-    ends: &[Ends],
+    links: &Links,
     agenda: &mut W,
     revised: PlacedArc,
 )
-    requires fields { BetweenFields ends.now (length sets.now) }
-    requires only { OnlyBelow (length ends.now) (W.Agenda.waiting agenda.old) }
-    ensures only { OnlyBelow (length ends.now) (W.Agenda.waiting agenda.new) }
+    requires fields { BetweenFields links.now.ends.now (length sets.now) }
+    requires own { revised.own < field_limit }
+    requires only { OnlyBelow (length links.now.ends.now) (W.Agenda.waiting agenda.old) }
+    ensures only { OnlyBelow (length links.now.ends.now) (W.Agenda.waiting agenda.new) }
     ensures more { Still (W.Agenda.waiting agenda.old) (W.Agenda.waiting agenda.new) }
-    ensures every { Neighbours ends.now (length ends.now) revised.own revised.arc.rule (W.Agenda.waiting agenda.new) }
+    ensures every { Neighbours links.now.ends.now (length links.now.ends.now) revised.own revised.arc.rule (W.Agenda.waiting agenda.new) }
 {
-    for (rule, pair) in ends.iter().enumerate() {
-        put_neighbour(sets, agenda, rule as u8, Side::Left, *pair, revised);
-        put_neighbour(sets, agenda, rule as u8, Side::Right, *pair, revised);
+    let mut next = links.first(revised.own);
+    while let Some(arc) = next {
+        put_neighbour(
+            sets,
+            agenda,
+            arc,
+            links.ends[arc.rule as usize],
+            revised.arc.rule,
+        );
+        next = links.after(arc);
     }
 }

@@ -8,6 +8,7 @@
 #![tactic(auto)]
 
 mod arcs;
+mod chains;
 pub mod examples;
 pub mod opening;
 pub mod propagate;

@@ -11,6 +11,7 @@ ghost use Rattle.propagation.specs.Standing.{Led};
 ghost use Rattle.propagation.specs.Turns.{Ready, Turned, Wiped};
 
 use crate::arcs::{PlacedArc, list_ends, put_all, put_neighbours};
+use crate::chains::Links;
 use crate::record::{Strike, WipedOut};
 use crate::standing::Standing;
 use agenda::agenda::Agenda;
@@ -25,16 +26,16 @@ impl Standing<'_> {
         &mut self,
         book: &mut B,
         agenda: &mut W,
-        ends: &[Ends],
+        links: &Links,
         arc: Arc,
     ) -> Result<(), WipedOut>
         requires ready { Ready (B.Book.meaning book.old) (words self.old.sets.now) (W.Agenda.waiting agenda.old) arc }
-        requires listed { Listed (B.Book.meaning book.old) ends.now }
+        requires listed { Listed (B.Book.meaning book.old) links.now.ends.now }
         ensures same { B.Book.meaning book.new ≡ B.Book.meaning book.old }
         ensures led { Led (B.Book.meaning book.old) self.old self.new }
         ensures cases { MatchResult result (λ _. Turned (B.Book.meaning book.old) (words self.old.sets.now) (W.Agenda.waiting agenda.old) (words self.new.sets.now) (W.Agenda.waiting agenda.new)) (λ w. Wiped (B.Book.meaning book.old) (words self.new.sets.now) w) }
     {
-        let place = PlacedArc::new(arc, ends[arc.rule as usize]);
+        let place = PlacedArc::new(arc, links.ends[arc.rule as usize]);
         if !self.revise(book, place) {
             return Ok(());
         }
@@ -44,7 +45,7 @@ impl Standing<'_> {
                 rule: arc.rule,
             });
         }
-        put_neighbours(self.sets(), ends, agenda, place);
+        put_neighbours(self.sets(), links, agenda, place);
         Ok(())
     }
 }
@@ -76,11 +77,12 @@ pub fn propagate<B: Book, W: Agenda>(
     // Fixed memory: propagation never wants for memory, so the ends stand in a table for the most rules.
     let mut table = [Ends::nowhere(); RULES as usize];
     let ends = list_ends(book, &mut table);
+    let links = Links::new(ends);
     agenda.clear();
     put_all(sets, ends, agenda);
     let mut standing = Standing { sets, strikes };
     while let Some(arc) = take_job(agenda) {
-        if let Err(wiped) = standing.turn(book, agenda, ends, arc) {
+        if let Err(wiped) = standing.turn(book, agenda, &links, arc) {
             agenda.clear();
             return Err(wiped);
         }

@@ -1,6 +1,6 @@
 // Revising an arc: striking the options of its field that have no partner across.
 
-ghost use Rattle.std.specs.Prelude.{◌≡◌, ℕ, ◌+◌, ◌<◌, true, false, T, [], ◌∷◌, ◌++◌, vec_len, vec_capacity};
+ghost use Rattle.std.specs.Prelude.{◌≡◌, ℕ, ◌+◌, ◌<◌, true, false, T, [], ◌∷◌, ◌++◌, vec_len, vec_capacity, slice_index};
 ghost use Rattle.network.specs.Network.{part, words};
 ghost use Rattle.propagation.specs.Strikes.{without, options};
 ghost use Rattle.propagation.specs.Arcs.{Supported, ArcAt, Elsewhere, Revised, strike_of};
@@ -10,6 +10,7 @@ use crate::arcs::PlacedArc;
 use crate::record::{Cause, Strike};
 use crate::standing::Standing;
 use books::book::Book;
+use network::options::OptionSet;
 
 impl Standing<'_> {
     // Strikes an option of the arc's field that stands, for want of a partner across.
@@ -35,9 +36,16 @@ impl Standing<'_> {
         });
     }
 
-    // Strikes one option of the arc's field if it has no partner across.
-    fn revise_option<B: Book>(&mut self, book: &mut B, place: PlacedArc, option: u8)
+    // Strikes one option of the arc's field if it has no partner in the set across.
+    fn revise_option<B: Book>(
+        &mut self,
+        book: &mut B,
+        place: PlacedArc,
+        partners: OptionSet,
+        option: u8,
+    )
         requires at { ArcAt (B.Book.meaning book.old) (words self.old.sets.now) place }
+        requires partners { slice_index (words self.old.sets.now) place.across ≡ partners.word }
         requires stands { T (part (words self.old.sets.now) place.own option) }
         ensures same { B.Book.meaning book.new ≡ B.Book.meaning book.old }
         ensures led { Led (B.Book.meaning book.old) self.old self.new }
@@ -45,8 +53,7 @@ impl Standing<'_> {
         ensures stays { (b : ℕ) → (b ≡ option → Supported (B.Book.meaning book.old) (part (words self.old.sets.now)) place.arc.side place.arc.rule option) → T (part (words self.old.sets.now) place.own b) → T (part (words self.new.sets.now) place.own b) }
         ensures supported { T (part (words self.new.sets.now) place.own option) → Supported (B.Book.meaning book.old) (part (words self.new.sets.now)) place.arc.side place.arc.rule option }
     {
-        let across = self.sets[place.across as usize];
-        if book.partner(place.arc, option, across).is_none() {
+        if book.partner(place.arc, option, partners).is_none() {
             self.strike(place, option);
         }
     }
@@ -61,9 +68,10 @@ impl Standing<'_> {
         ensures changed { result ≡ true → options (words self.new.sets.now) < options (words self.old.sets.now) }
     {
         let before = self.strikes.len();
+        let partners = self.sets[place.across as usize];
         let mut waiting = self.sets[place.own as usize];
         while let Some(option) = waiting.take_lowest() {
-            self.revise_option(book, place, option);
+            self.revise_option(book, place, partners, option);
         }
         self.strikes.len() != before
     }

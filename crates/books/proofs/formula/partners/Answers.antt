@@ -3,7 +3,8 @@ use Rattle.network.specs.Network.{option_limit, has}
 use Rattle.network.proofs.Truth.{T_yes, T_left, T_right, and_false}
 use Rattle.network.proofs.Bits.{none_of_zero}
 use Rattle.books.specs.Formula.{formula_rule}
-use Rattle.books.proofs.Asked.{between_fields, permits_in, permits_out}
+use Rattle.books.specs.Reads.{between_fields}
+use Rattle.books.proofs.Asked.{permits_in, permits_out}
 use Rattle.books.proofs.Differences.{fulfils_on}
 use Rattle.books.proofs.formula.partners.Goals as goal
 

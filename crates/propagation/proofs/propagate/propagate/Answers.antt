@@ -9,7 +9,7 @@ use Rattle.propagation.specs.declared.record.Strike.{Strike}
 use Rattle.propagation.specs.Standing.{Led}
 use Rattle.propagation.specs.Turns.{Ready, Turned, Wiped, work}
 use Rattle.propagation.proofs.Steps.{led_then}
-use Rattle.propagation.proofs.Ends.{sound_from, ready_from, wiped_from, settled_on}
+use Rattle.propagation.proofs.Ends.{sound_from, listed_between, ready_from, wiped_from, settled_on}
 use Rattle.propagation.proofs.propagate.propagate.Goals as goal
 
 -- the same said of the sets and the list once they are given back
@@ -18,6 +18,14 @@ progress_back rules s v {a = a} {b = b} {u = u} {w = w} p e f = subst (λ x. Pro
 
 settled_back : (rules : List Rule) (s : List ℕ) {a b : List OptionSet} → SettledOn rules s (words b) → a ≡ b → SettledOn rules s (words a)
 settled_back rules s h e = subst (λ x. SettledOn rules s (words x)) (sym e) h
+
+pub new-links-requires : goal.new-links-requires
+new-links-requires g c =
+    let rules = g.B.Book.meaning c.args.book.now in
+    let sets = words c.args.sets.now in
+    let sound = sound_from rules sets c.requires.accepted in
+    let between = listed_between rules sets c.list_ends-ends.result.now sound c.list_ends-ends.ensures in
+    record { few = between.few; fields = λ r side lt. omega (arith, between.fields r side lt, sound.few) }
 
 pub turn-requires-clause-ready : goal.turn-requires-clause-ready
 turn-requires-clause-ready g c =

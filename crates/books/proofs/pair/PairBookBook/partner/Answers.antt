@@ -2,7 +2,7 @@ use Rattle.std.proofs.Common.{◌^◌, ◌<◌, min, arith, rules}
 use Rattle.std.proofs.lemmas.Bool.{and_right, le-ltb}
 use Rattle.network.specs.Network.{option_limit, field_limit, words}
 use Rattle.books.specs.Pairs.{pairs_of, rule_between}
-use Rattle.books.proofs.Asked.{between_fields}
+use Rattle.books.specs.Reads.{between_fields}
 use Rattle.books.proofs.PairBooks.{pair_from_left, pair_from_right}
 use Rattle.books.proofs.Partners.{no_partner, partner_by, none_permitted}
 use Rattle.books.proofs.pair.PairBookBook.partner.Goals as goal

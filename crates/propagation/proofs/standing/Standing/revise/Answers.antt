@@ -1,6 +1,7 @@
-use Rattle.std.proofs.Common.{◌≡◌, ℕ, ◌-◌, ◌^◌, T, sym, ◌∙◌, subst, inl, inr}
+use Rattle.std.proofs.Common.{◌≡◌, ℕ, ◌-◌, ◌^◌, ◌<◌, T, length, sym, ◌∙◌, subst, inl, inr, arith}
 use Rattle.std.proofs.lemmas.Bool.{eqb-true, eqb-false, not-false, not-true}
 use Rattle.network.specs.Network.{has, part, words}
+use Rattle.network.proofs.Words.{length_words, word_of}
 use Rattle.network.proofs.Truth.{T_no}
 use Rattle.network.proofs.Bits.{none_of_zero}
 use Rattle.propagation.specs.Arcs.{ArcAt, Supported, across}
@@ -13,6 +14,15 @@ revise_option-requires-clause-at g c =
     let inv = c.loop-option.invariant in
     let s' = words c.loop-option.self.sets.now in
     subst (λ rs. ArcAt rs s' c.args.place) (sym inv.same) (at_after _ _ s' _ _ c.args.place inv.led.progress c.requires)
+
+pub revise_option-requires-clause-partners : goal.revise_option-requires-clause-partners
+revise_option-requires-clause-partners g c =
+    let at = c.requires in
+    let arc = c.args.place in
+    let sets = c.args.self.now.sets.now in
+    let apart : arc.across ≡ arc.own → ⊥ = λ e. at.sound.apart arc.arc.rule arc.arc.side at.rule (sym at.other ∙ e ∙ at.field) in
+    let within : arc.across < length sets = omega (arith, at.other, at.sound.across_field arc.arc.rule arc.arc.side at.rule, length_words sets) in
+    c.loop-option.invariant.elsewhere arc.across apart ∙ word_of sets arc.across (record { word = 0 }) within
 
 pub loop-option-preserved : goal.loop-option-preserved
 loop-option-preserved g c =

@@ -8,11 +8,6 @@ use Rattle.propagation.proofs.Strikes.{struck_gone, stays, without_other}
 use Rattle.propagation.proofs.Steps.{progress_strike, partner_found, partner_none}
 use Rattle.propagation.proofs.standing.Standing.revise_option.Goals as goal
 
--- the word of the set across
-word_across : (rules : List Rule) (sets : List OptionSet) (arc : PlacedArc) → ArcAt rules (words sets) arc → get_or (words sets) arc.across 0 ≡ (get_or sets arc.across (record { word = 0 })).word
-word_across rules sets arc at =
-    word_of sets arc.across (record { word = 0 }) (omega (arith, at.other, at.sound.across_field arc.arc.rule arc.arc.side at.rule, length_words sets))
-
 pub returns-then-is_none : goal.returns-then-is_none
 returns-then-is_none g c =
     let rules = g.B.Book.meaning c.args.book.now in
@@ -22,7 +17,7 @@ returns-then-is_none g c =
     let a = c.args.option in
     let stands = c.requires.stands in
     let at = c.requires.at in
-    let alone = partner_none rules sets arc a at stands _ (word_across rules c.args.self.now.sets.now arc at) c.partner.result c.if-is_none.ensures c.partner.ensures.found in
+    let alone = partner_none rules sets arc a at stands _ c.requires.partners c.partner.result c.if-is_none.ensures c.partner.ensures.found in
     let done = c.strike.ensures in
     record {
       same = c.partner.ensures.same;
@@ -35,4 +30,4 @@ returns-then-is_none g c =
 pub returns-else-is_none-clause-supported : goal.returns-else-is_none-clause-supported
 returns-else-is_none-clause-supported g c =
     let at = c.requires.at in
-    λ t. partner_found (g.B.Book.meaning c.args.book.now) (words c.args.self.now.sets.now) c.args.place c.args.option at c.requires.stands _ (word_across _ c.args.self.now.sets.now c.args.place at) c.partner.result c.if-is_none.ensures c.partner.ensures.found
+    λ t. partner_found (g.B.Book.meaning c.args.book.now) (words c.args.self.now.sets.now) c.args.place c.args.option at c.requires.stands _ c.requires.partners c.partner.result c.if-is_none.ensures c.partner.ensures.found

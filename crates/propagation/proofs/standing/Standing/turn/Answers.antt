@@ -34,11 +34,17 @@ returns-then-not-revise-clause-cases g c =
 pub put_neighbours-requires-clause-fields : goal.put_neighbours-requires-clause-fields
 put_neighbours-requires-clause-fields g c =
     let rules = g.B.Book.meaning c.args.book.now in
-    let ends = c.args.ends.now in
+    let ends = c.args.links.now.ends.now in
     let s = words c.args.self.now.sets.now in
     let s' = c.revise.new.self.sets.now in
     let same : length s ≡ length c.sets.result.now = omega (arith, ap (length {A = OptionSet}) c.sets.ensures, length_words s', progress_length rules s (words s') _ _ c.revise.ensures.led.progress) in
     subst (BetweenFields ends) same (listed_between rules s ends c.requires.ready.sound c.requires.listed)
+
+pub put_neighbours-requires-clause-own : goal.put_neighbours-requires-clause-own
+put_neighbours-requires-clause-own g c =
+    let arc = c.args.arc in
+    let ready = c.requires.ready in
+    omega (arith, ap (λ p. p.own) c.new-place.ensures, c.requires.listed.own arc.rule arc.side ready.rule, ready.sound.own_field arc.rule arc.side ready.rule, ready.sound.few)
 
 pub returns : goal.returns
 returns g c =
@@ -52,7 +58,7 @@ returns g c =
     let put = c.put_neighbours.ensures in
     let p = done.led.progress in
     let arc = c.args.arc in
-    let ends = c.args.ends.now in
+    let ends = c.args.links.now.ends.now in
     let place = c.new-place.result in
     let is = c.new-place.ensures in
     let listed = c.requires.listed in
