@@ -1,7 +1,7 @@
 -- A catalogue that can be closed is one over which a draft can be opened.
 use Rattle.std.proofs.Common.{◌≡◌, ℕ, suc, ◌+◌, Bool, true, false, ◌||◌, eqb, ltb, List, [], ◌∷◌, ◌++◌, length, sym, refl, ap, ◌∙◌}
 use Rattle.std.proofs.lemmas.List.{length-append, length-map}
-use Rattle.network.specs.Network.{Rule, words, field_limit, rule_limit, no_fields}
+use Rattle.network.specs.Network.{words, field_limit, rule_limit, no_fields}
 use Rattle.network.specs.declared.options.OptionSet.{OptionSet}
 use Rattle.network.specs.declared.rules.Ends.{Ends}
 use Rattle.network.specs.declared.rules.FormulaRule.{FormulaRule}
@@ -9,7 +9,10 @@ use Rattle.network.proofs.Words.{length_words}
 use Rattle.books.specs.Table.{table_rules_from, table_rules}
 use Rattle.books.specs.Formula.{formula_rule, formula_rules}
 use Rattle.propagation.specs.Refusals.{any, empty, unfit, opening_refusal}
+use Rattle.books.specs.declared.table.TableBook.{TableBook}
+use Rattle.books.specs.declared.formula.FormulaBook.{FormulaBook}
 use Rattle.catalogue.specs.Content.{Content, rule_count, closing_refusal}
+use Rattle.catalogue.specs.Rules.{rules_of}
 
 or_assoc : (a b c : Bool) → ((a || b) || c) ≡ (a || (b || c))
 or_assoc true b c = refl
@@ -35,10 +38,6 @@ length_tables : (r : ℕ) (ends : List Ends) (rows : List ℕ) → length (table
 length_tables r [] rows = refl
 length_tables r (e ∷ more) rows = ap suc (length_tables (suc r) more rows)
 
--- the rules of a catalogue: those of the tables, then those of the formulas
-abbrev pub rules_of : Content → List Rule
-rules_of c = table_rules c.ends.entered (words c.rows.entered) ++ formula_rules c.formulas.entered
-
 module _ (c : Content) where
   count : length (rules_of c) ≡ rule_count c
   count =
@@ -60,3 +59,10 @@ module _ (c : Content) where
       let none = any_words c.sets.entered in
       let many = ap (λ k. ltb rule_limit k) count in
       let ends = ap (λ k. any (unfit k) (rules_of c)) n ∙ unfits (length c.sets.entered) in cc
+
+-- books over what a catalogue holds mean its rules
+pub books_mean : (c : Content) (t : TableBook) (f : FormulaBook) → t.ends.now ≡ c.ends.entered → t.rows.now ≡ c.rows.entered → f.rules.now ≡ c.formulas.entered → table_rules t.ends.now (words t.rows.now) ++ formula_rules f.rules.now ≡ rules_of c
+books_mean c t f ends rows formulas =
+    ap (λ e. table_rules e (words t.rows.now) ++ formula_rules f.rules.now) ends
+    ∙ ap (λ r. table_rules c.ends.entered (words r) ++ formula_rules f.rules.now) rows
+    ∙ ap (λ k. table_rules c.ends.entered (words c.rows.entered) ++ formula_rules k) formulas

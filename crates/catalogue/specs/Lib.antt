@@ -1,3 +1,4 @@
 pub mod Lent
 pub mod Content
+pub mod Rules
 pub mod View

@@ -1,6 +1,7 @@
 // A closed catalogue.
 
 ghost use Rattle.std.specs.Prelude.{◌≡◌};
+ghost use Rattle.catalogue.specs.Rules.{CanBeOpened};
 ghost use Rattle.catalogue.specs.View.{content};
 
 use crate::preparation::Preparation;
@@ -9,10 +10,11 @@ use books::table::TableBook;
 use faults::EngineFault;
 use network::options::OptionSet;
 
-// A catalogue that can be read and takes no more entries.
+// A catalogue that can be read and takes no more entries. A draft can be opened over it.
 #[derive(Drop)]
 pub struct Closed<'a> {
     pub(crate) catalogue: Preparation<'a>,
+    ghost opens: { CanBeOpened (content catalogue) },
 }
 
 // A closing that was refused: the catalogue, still in preparation, and why.

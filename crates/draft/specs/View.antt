@@ -1,5 +1,5 @@
 -- A draft as the state that the calls speak of, and how a draft answers a call.
-use Rattle.std.specs.Prelude.{◌≡◌, ℕ, ◌<◌, ◌≤◌, true, false, List, length, Some, is_ok, Ok, Err, vec_items, Decides, Result, Vec, Bool, slice_index}
+use Rattle.std.specs.Prelude.{◌≡◌, ℕ, ◌<◌, ◌≤◌, true, false, List, [], length, Some, is_ok, Ok, Err, vec_items, Decides, Result, Vec, Bool, slice_index}
 use Rattle.std.specs.declared.alloc.Global.{Global}
 use Rattle.faults.specs.declared.EngineFault.{EngineFault}
 use Rattle.faults.specs.declared.EngineFault.TheVariants.{NotOpened, OutOfRange}
@@ -82,11 +82,24 @@ pub record OpensSets (rules : List Rule) (sets : List ℕ) (led : Result Opened 
   pub accepted : Decides (is_ok led) (Accepted rules sets)
   pub state : led_to led ≡ opened sets
 
+-- and the same in memory that was got before, but that nothing is held of refused sets
+pub record OpensReserved (rules : List Rule) (sets : List ℕ) (led : Result Opened (Vec OptionSet Global)) : Type 0 where
+  pub accepted : Decides (is_ok led) (Accepted rules sets)
+  pub state : is_ok led ≡ true → led_to led ≡ opened sets
+  pub shut : is_ok led ≡ false → led_to led ≡ opened []
+
 -- a new draft has the book that was handed in, and is accepted just if its opening is
 pub record Opens {B W : Type 0} (handed : B) (rules : List Rule) (sets : List ℕ) (d : Draft B W) : Type 0 where
   pub book : d.book ≡ handed
   pub accepted : Decides (is_open d) (Accepted rules sets)
   pub state : view d ≡ opened sets
+
+-- a new draft in memory that was got before
+pub record OpensIn {B W : Type 0} (handed : B) (rules : List Rule) (sets : List ℕ) (d : Draft B W) : Type 0 where
+  pub book : d.book ≡ handed
+  pub accepted : Decides (is_open d) (Accepted rules sets)
+  pub state : is_open d ≡ true → view d ≡ opened sets
+  pub shut : is_open d ≡ false → view d ≡ opened []
 
 -- a draft that was not made gives back what was handed in
 pub record GivenBack {B W : Type 0} (b : B) (w : W) (u : Unopened B W) : Type 0 where

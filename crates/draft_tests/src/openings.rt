@@ -4,6 +4,7 @@ use crate::opened::open;
 use agenda::first::FirstCome;
 use books::formula::FormulaBook;
 use draft::draft::Draft;
+use draft::draft::opens::Memory;
 use faults::EngineFault;
 use network::options::OptionSet;
 use network::rules::{FormulaRule, Kind};
@@ -61,4 +62,25 @@ fn refuses_every_call_on_a_refused_opening(rt: HostRuntime) -> Result<(), Fail> 
     assert_eq!(rt; draft.take_back(), Err(EngineFault::NotOpened));
     assert_eq!(rt; draft.show(0), Err(EngineFault::NotOpened));
     Ok(())
+}
+
+// What a draft over 16 fields, opened in memory that was got before, shows of the last; none where memory is wanting.
+fn last_shown_in_memory(heap: Global, set: OptionSet) -> Option<Result<OptionSet, EngineFault>> {
+    let memory = Memory::reserve(heap).ok()?;
+    let rules = [rule(15, 0); 128];
+    let draft = Draft::open_in(
+        memory,
+        &[set; 16],
+        FormulaBook::new(&rules),
+        FirstCome::new(),
+    );
+    Some(draft.show(15))
+}
+
+#[test]
+fn opens_in_memory_got_before(rt: HostRuntime) {
+    let set = OptionSet::from(7);
+    let refused = Some(Err(EngineFault::NotOpened));
+    assert_eq!(rt; last_shown_in_memory(rt.alloc(), set), Some(Ok(set)));
+    assert_eq!(rt; last_shown_in_memory(rt.alloc(), OptionSet::empty()), refused);
 }

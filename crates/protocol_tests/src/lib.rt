@@ -1,9 +1,11 @@
-// Executed examples of the line layer and the catalogue, kept apart so that neither is proved twice.
+// Executed examples of the line layer, the catalogue and sessions, kept apart so that none is proved twice.
 #![tactic(auto)]
 
 #[cfg(test)]
 mod entering;
 #[cfg(test)]
 mod reading;
+#[cfg(test)]
+mod serving;
 #[cfg(test)]
 mod writing;

@@ -3,6 +3,7 @@
 
 use anyhow::anyhow;
 use catalogue::preparation::Preparation;
+use draft::draft::opens::Memory;
 use faults::FrameFault;
 use frames::lines::LINE_BYTES;
 use network::options::{OPTIONS, OptionSet};
@@ -69,7 +70,7 @@ fn serve(rt: &HostRuntime, stream: &mut Stream) -> anyhow::Result<()> {
     Ok(())
 }
 
-// Lends the catalogue as much memory as the most fields and rules take, and serves the input.
+// Lends the catalogue as much memory as the most fields and rules take, gets the draft's, and serves the input.
 fn run(rt: &HostRuntime) -> anyhow::Result<()> {
     let heap = rt.alloc();
     let formula = FormulaRule {
@@ -88,7 +89,8 @@ fn run(rt: &HostRuntime) -> anyhow::Result<()> {
         rows.as_mut_slice(),
         formulas.as_mut_slice(),
     );
-    let mut stream = Stream::new(Session::new(catalogue));
+    let memory = Memory::reserve(heap)?;
+    let mut stream = Stream::new(Session::new(catalogue, memory));
     serve(rt, &mut stream)
 }
 

@@ -46,7 +46,7 @@ replied_alike s s' line whole a start r = record {
   before = r.before;
   counted = r.counted;
   result = r.result;
-  served = record { asked = r.served.asked; received = same_start line whole (sym start) r.served.asked r.served.received; answers = r.served.answers; holds = r.served.holds };
+  served = record { asked = r.served.asked; received = same_start line whole (sym start) r.served.asked r.served.received; answered = r.served.answered };
   replies = r.replies;
 }
 

@@ -1,3 +1,4 @@
+pub mod Rules
 pub mod Serving
 pub mod Steps
 pub mod Pending

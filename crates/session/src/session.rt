@@ -1,27 +1,35 @@
-// Serving lines.
+// A session, and what it enters into its catalogue.
 
-ghost use Rattle.std.specs.Prelude.{◌≡◌, ℕ, ◌<◌, ◌≤◌, List, length, take, MatchResult, ◌==◌};
+ghost use Rattle.std.specs.Prelude.{◌≡◌, ◌<◌, ◌≤◌, true, false, length, is_some, MatchResult, ◌≢◌};
 ghost use Rattle.catalogue.specs.View.{content};
 ghost use Rattle.faults.specs.Numbers.{program_number};
 ghost use Rattle.frames.specs.declared.answers.Answer.TheVariants.{Refused};
-ghost use Rattle.session.specs.Serving.{refusal, entered, verdict, outcome, Served};
+ghost use Rattle.frames.specs.declared.frames.Frame.TheVariants.{Open};
+ghost use Rattle.session.specs.Serving.{preparing, refusal, entered, verdict, outcome};
 ghost use Rattle.faults.specs.declared.LineFault.TheVariants.{ShortBuffer};
 ghost use Rattle.faults.specs.declared.FrameFault.TheVariants.{Line};
-ghost use Rattle.frames.specs.Lines.{line_limit, line_reach};
-ghost use Rattle.session.specs.Steps.{state, last_line, Stepped, Exchanged};
+ghost use Rattle.frames.specs.Lines.{line_limit};
 
+mod steps;
+
+use crate::drafting::Drafting;
 use catalogue::preparation::Preparation;
+use draft::draft::opens::Memory;
 use faults::{FrameFault, LineFault, ProgramFault};
 use frames::answers::Answer;
-use frames::frames::{Frame, receive};
+use frames::frames::Frame;
 use frames::lines::LINE_BYTES;
 use network::rules::{Ends, FormulaRule, Kind};
 
-// A catalogue in preparation, and how many lines were answered.
+// A catalogue in preparation and the memory of a draft, or the draft that was opened over the catalogue; and how many
+// lines were answered.
 #[derive(Drop)]
 pub struct Session<'a> {
     catalogue: Preparation<'a>,
+    memory: Option<Memory>,
+    draft: Option<Drafting<'a>>,
     lines: u16,
+    ghost ready: { is_some draft ≡ false → is_some memory ≡ true },
 }
 
 // A refusal: the number of the line, and the fault, which holds those below it whole.
@@ -32,9 +40,10 @@ pub struct Refusal {
 }
 
 // Enters what a frame of the catalogue holds; any other frame is misplaced.
-fn enter(catalogue: &mut Preparation, frame: Frame) -> Result<(), ProgramFault>
+fn enter(catalogue: &mut Preparation, frame: Frame) -> Result<Answer, ProgramFault>
+    requires { frame ≢ Open }
     ensures answers { result ≡ verdict (refusal (content catalogue.old) frame) }
-    ensures after { content catalogue.new ≡ outcome (refusal (content catalogue.old) frame) (content catalogue.old) (entered (content catalogue.old) frame) }
+    ensures after { preparing (content catalogue.new) ≡ outcome (refusal (content catalogue.old) frame) (preparing (content catalogue.old)) (entered (content catalogue.old) frame) }
 {
     match frame {
         Frame::EnterField { field, set } => catalogue.enter_field(field, set)?,
@@ -53,7 +62,7 @@ fn enter(catalogue: &mut Preparation, frame: Frame) -> Result<(), ProgramFault>
         })?,
         _ => return Err(FrameFault::Misplaced.into()),
     }
-    Ok(())
+    Ok(Answer::Done)
 }
 
 // A refusal is answered by its number and its line.
@@ -76,60 +85,4 @@ pub(crate) fn check_room(out: &[u8]) -> Result<(), FrameFault>
         return Err(LineFault::ShortBuffer.into());
     }
     Ok(())
-}
-
-impl<'a> Session<'a> {
-    // A session in which no line was answered.
-    pub fn new(catalogue: Preparation<'a>) -> Session<'a>
-        ensures { state result ≡ record { lines = 0; content = content catalogue.entry } }
-    {
-        Session {
-            catalogue,
-            lines: 0,
-        }
-    }
-
-    // Serves one line, or passes up why not.
-    fn serve(&mut self, line: &[u8]) -> Result<Answer, ProgramFault>
-        ensures served { Served (content self.old.catalogue) line.now result (content self.new.catalogue) }
-        ensures lines { self.new.lines ≡ self.old.lines }
-    {
-        let frame = receive(line)?;
-        enter(&mut self.catalogue, frame)?;
-        Ok(Answer::Done)
-    }
-
-    // Whether 65,535 lines were answered.
-    pub fn is_over(&self) -> bool
-        ensures { result ≡ ((state self.now).lines == last_line) }
-    {
-        self.lines == u16::MAX
-    }
-
-    // Answers one line. None, and nothing changes, once 65,535 lines were answered.
-    pub fn step(&mut self, line: &[u8]) -> Option<Result<Answer, Refusal>>
-        ensures { Stepped (state self.old) line.now result (state self.new) }
-    {
-        if self.is_over() {
-            return None;
-        }
-        self.lines += 1;
-        let served = self.serve(line);
-        Some(served.map_err(|fault| Refusal {
-            line: self.lines,
-            fault,
-        }))
-    }
-
-    // Answers one line with the bytes of a line, and tells how many: none once 65,535 lines were answered. A buffer
-    // with less room than the longest line is refused, and nothing changes. Only the first 34 bytes of a line matter.
-    pub fn exchange(&mut self, line: &[u8], out: &mut [u8]) -> Result<usize, FrameFault>
-        ensures { (whole : List ℕ) → take line_reach whole ≡ take line_reach line.now → Exchanged (state self.old) whole out.old result out.new (state self.new) }
-    {
-        check_room(out)?;
-        let Some(result) = self.step(line) else {
-            return Ok(0);
-        };
-        result.unwrap_or_else(Answer::from).write(out)
-    }
 }

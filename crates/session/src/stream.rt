@@ -2,7 +2,7 @@
 
 ghost use Rattle.std.specs.Prelude.{◌≡◌, ℕ, List, [], take, ◌==◌};
 ghost use Rattle.frames.specs.Lines.{line_reach};
-ghost use Rattle.session.specs.Steps.{state, last_line, Exchanged};
+ghost use Rattle.session.specs.Steps.{situation, state, last_line, LawfulAt, Exchanged};
 ghost use Rattle.session.specs.Pending.{kept};
 ghost use Rattle.session.specs.Streams.{Fed, Finished};
 
@@ -32,7 +32,8 @@ impl<'a> Stream<'a> {
     // Takes one byte, and writes the answer where it ends a line.
     // What is kept of a line is said here and below of every whole line: nobody holds that line, so no type can say it.
     pub fn feed(&mut self, byte: u8, out: &mut [u8]) -> Result<usize, FrameFault>
-        ensures { (line : List ℕ) → take line_reach line ≡ kept self.old.line → Fed self.old line byte out.old result out.new self.new }
+        ensures fed { (line : List ℕ) → take line_reach line ≡ kept self.old.line → Fed self.old line byte out.old result out.new self.new }
+        ensures law { LawfulAt (situation self.new.session) }
     {
         check_room(out)?;
         self.line.push(byte);
@@ -44,7 +45,8 @@ impl<'a> Stream<'a> {
 
     // Answers the bytes behind the last line feed, if any, as a line that is not ended.
     pub fn finish(&mut self, out: &mut [u8]) -> Result<usize, FrameFault>
-        ensures { (line : List ℕ) → take line_reach line ≡ kept self.old.line → Finished self.old line out.old result out.new self.new }
+        ensures finished { (line : List ℕ) → take line_reach line ≡ kept self.old.line → Finished self.old line out.old result out.new self.new }
+        ensures law { LawfulAt (situation self.new.session) }
     {
         check_room(out)?;
         if self.line.is_empty() {

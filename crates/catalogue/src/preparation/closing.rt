@@ -4,6 +4,7 @@ ghost use Rattle.std.specs.Prelude.{◌≡◌, ◌++◌, Some, None, MatchResult
 ghost use Rattle.network.specs.Network.{words};
 ghost use Rattle.propagation.specs.Refusals.{answer};
 ghost use Rattle.catalogue.specs.Content.{closing_refusal};
+ghost use Rattle.catalogue.specs.Rules.{CanBeOpened};
 ghost use Rattle.catalogue.specs.View.{content};
 
 use crate::closed::{Closed, Refused};
@@ -29,7 +30,8 @@ impl<'a> Preparation<'a> {
 
     // Whether a draft can be opened over the catalogue, and the first reason why not.
     fn check(&self) -> Result<(), EngineFault>
-        ensures { result ≡ answer (closing_refusal (content self.now)) }
+        ensures answer { result ≡ answer (closing_refusal (content self.now)) }
+        ensures opens { MatchResult result (λ _. CanBeOpened (content self.now)) (λ _. CanBeOpened (content self.now) → ⊥) }
     {
         check_opening(&self.book(), self.sets.as_slice())
     }

@@ -1,21 +1,31 @@
-use Rattle.std.proofs.Common.{Ok, refl}
-use Rattle.std.proofs.lemmas.Result.{err_from_is_err_and}
+use Rattle.std.proofs.Common.{Ok, sym, refl, subst}
 use Rattle.catalogue.specs.View.{content}
-use Rattle.session.proofs.Passing.{answered_so}
+use Rattle.session.specs.Serving.{Answered}
+use Rattle.session.specs.Steps.{situation, placed, drafted}
 use Rattle.session.proofs.session.Session.serve.Goals as goal
 
-pub returns-in_err-enter : goal.returns-in_err-enter
-returns-in_err-enter c =
-    let p = err_from_is_err_and c.from_residual-in_err-enter.result c.from_residual-in_err-enter.ensures.1 in
+pub returns-in-Some : goal.returns-in-Some
+returns-in-Some c =
     let frame = c.in_ok-frame.frame in
-    let refused = c.in_err-enter.ensures in
-    rw (p.1, p.2)
-    (record {
+    let held = content c.args.self.now.catalogue in
+    record {
       served = record {
         asked = Ok frame;
         received = c.in_ok-frame.ensures;
-        answers = answered_so (content c.args.self.now.catalogue) frame c.in_err-enter.field-0.0 refused.answers;
-        holds = refused.after;
+        answered = subst (λ d. Answered (placed held d) (Ok frame) c.ask.result (drafted c.ask.new.self)) (sym c.in-Some.is) c.ask.ensures;
       };
       lines = refl;
-    })
+    }
+
+pub returns-in-None : goal.returns-in-None
+returns-in-None c =
+    let frame = c.in_ok-frame.frame in
+    let held = content c.args.self.now.catalogue in
+    record {
+      served = record {
+        asked = Ok frame;
+        received = c.in_ok-frame.ensures;
+        answered = subst (λ d. Answered (placed held d) (Ok frame) c.prepare.result (situation c.prepare.new.self)) (sym c.in-None.is) (c.prepare.ensures.answers, c.prepare.ensures.after);
+      };
+      lines = c.prepare.ensures.lines;
+    }
