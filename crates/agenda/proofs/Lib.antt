@@ -1,5 +1,6 @@
 pub mod Takes
 pub mod Waits
+mod Masks
 mod Risings
 mod NumberSets
 mod Sequences

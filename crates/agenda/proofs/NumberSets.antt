@@ -19,7 +19,7 @@ use Rattle.agenda.specs.declared.numbers.NumberSet.{NumberSet}
 use Rattle.agenda.proofs.Risings.{rising_none, rising_first}
 
 -- a word that is 0 holds no number
-numbers_none : (s : NumberSet) (k : ℕ) → get_or s.words (k / 64) 0 ≡ 0 → numbers s k ≡ false
+pub numbers_none : (s : NumberSet) (k : ℕ) → get_or s.words (k / 64) 0 ≡ 0 → numbers s k ≡ false
 unfolding numbers
 numbers_none s k e = ap (λ w. has w (k % 64)) e ∙ ap (λ b. eqb b 1) (bit_at-zero (k % 64))
 

@@ -1,6 +1,6 @@
 -- Sequences of numbers: which are in them, once each.
-use Rattle.std.proofs.Common.{◌≡◌, ℕ, zero, suc, ◌<◌, true, false, eqb, List, [], ◌∷◌, ◌++◌, length, drop, refl, ◌∙◌, inl, inr, arith}
-use Rattle.std.proofs.lemmas.Bool.{cases_eq, lt-ltb, or_right}
+use Rattle.std.proofs.Common.{◌≡◌, ℕ, zero, suc, ◌<◌, ◌≤◌, true, false, eqb, List, [], ◌∷◌, ◌++◌, length, drop, refl, ◌∙◌, inl, inr, arith}
+use Rattle.std.proofs.lemmas.Bool.{cases_eq, lt-ltb, le-ltb, or_right}
 use Rattle.std.proofs.lemmas.Bool.Decides.{nat_tests}
 use Rattle.agenda.specs.Waiting.{number_limit, Same, with_one, put_number, Taken, waits}
 use Rattle.agenda.specs.Sequence.{first_of, among}
@@ -18,6 +18,9 @@ apart_push [] n once new = refl
 apart_push (x ∷ xs) n once new = grind (arith, nat_tests, among_push xs n x, apart_push xs n)
 
 module _ (ns : List ℕ) (n : ℕ) where
+  pub lined_past : number_limit ≤ n → lined_up ns n ≡ ns
+  lined_past h = rw (le-ltb n 512 h)
+
   pub lined_again : among ns n ≡ true → lined_up ns n ≡ ns
   lined_again on = grind (arith, nat_tests)
 

@@ -9,7 +9,7 @@ unfolding waits
 waits_le w zero = omega arith
 waits_le w (suc m) = grind (arith, nat_tests, waits_le w m)
 
-waits_same : (w w' : Waiting) (m : ℕ) → ((k : ℕ) → k < m → w' k ≡ w k) → waits w' m ≡ waits w m
+pub waits_same : (w w' : Waiting) (m : ℕ) → ((k : ℕ) → k < m → w' k ≡ w k) → waits w' m ≡ waits w m
 unfolding waits
 waits_same w w' zero same = refl
 waits_same w w' (suc m) same = rw (same m (omega arith), waits_same w w' m (λ k h. same k (omega arith)))

@@ -29,11 +29,11 @@ pairs_at n words x a y b h k l =
     ap (λ g. g && has (get_or words (word_at x a y) 0) b) (yes_T (ltb x n && (ltb a option_limit && ltb y field_limit)) (and_T _ _ (lt→ltb x n h) (and_T _ _ (lt→ltb a option_limit k) (lt→ltb y field_limit l))))
 
 module _ (n : ℕ) (few : n ≤ field_limit) (words : List ℕ) where
-  pair_none : (r : ℕ) → triangle n ≤ r → asked (pair_rules n (pairs_of n words)) r ≡ no_rule
+  pub pair_none : (r : ℕ) → triangle n ≤ r → asked (pair_rules n (pairs_of n words)) r ≡ no_rule
   pair_none r h = asked_past (pair_rules n (pairs_of n words)) r (let l = rules_length n (pairs_of n words) in omega arith)
 
   module _ (r x y : ℕ) (below : r < triangle n) (ends : pair_at n r ≡ (x, y)) where
-    pair_asked : asked (pair_rules n (pairs_of n words)) r ≡ pair_rule (pairs_of n words) x y
+    pub pair_asked : asked (pair_rules n (pairs_of n words)) r ≡ pair_rule (pairs_of n words) x y
     pair_asked =
         let most = triangle_few n few in
         let long = rules_length n (pairs_of n words) in

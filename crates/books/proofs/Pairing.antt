@@ -1,5 +1,5 @@
 -- The pair rules: how many there are, the fields of each, and the place of each pair of fields.
-use Rattle.std.proofs.Common.{◌≡◌, ℕ, zero, suc, ◌+◌, ◌-◌, ◌*◌, ◌<◌, ◌≤◌, ltb, length, sym, refl, ap, ◌∙◌, subst, ⊎_elim, suc-mul, mul-suc, arith}
+use Rattle.std.proofs.Common.{◌≡◌, ℕ, zero, suc, ◌+◌, ◌-◌, ◌*◌, ◌<◌, ◌≤◌, false, ◌&&◌, ltb, length, sym, refl, ap, ◌∙◌, subst, ⊎_elim, suc-mul, mul-suc, arith}
 use Rattle.std.proofs.lemmas.List.{length-append, get_or_append_left, get_or-append_right, get_or_past}
 use Rattle.std.proofs.lemmas.Bool.{lt-ltb, le-ltb, cases_lt, cond-true, cond-false}
 use Rattle.network.specs.Network.{field_limit, no_field, Rule, rule_at, no_rule}
@@ -106,6 +106,15 @@ left_at n q r = (ends_at n q r).0
 pub right_at : (n : ℕ) (q : Pairs) (r : ℕ) → (rule_at (pair_rules n q) r).right ≡ (pair_at n r).1
 right_at n q r = (ends_at n q r).1
 
+-- past the last rule nothing is allowed; before it, the pairs kept in both orders
+pub allows_past : (n : ℕ) (q : Pairs) (r a b : ℕ) → triangle n ≤ r → (rule_at (pair_rules n q) r).allows a b ≡ false
+allows_past n q r a b l =
+    ap (λ (u : Rule). u.allows a b) (get_or_past (pair_rules n q) r no_rule (let k = rules_length n q in omega arith))
+
+pub allows_at : (n : ℕ) (q : Pairs) (r a b : ℕ) → r < triangle n
+    → (rule_at (pair_rules n q) r).allows a b ≡ (q (pair_at n r).0 a (pair_at n r).1 b && q (pair_at n r).1 b (pair_at n r).0 a)
+allows_at n q r a b l = ap (λ (u : Rule). u.allows a b) (rule_is n q r (let k = rules_length n q in omega arith))
+
 -- rule r of the `more` fields from x on is that of the fields u and y
 record Found (x more r u y : ℕ) : Type 0 where
   below : r < triangle more
@@ -131,3 +140,33 @@ place_below n x y h l = (place_in n 0 x x y (omega arith) h (omega arith)).below
 
 pub place_ends : (n x y : ℕ) → x < y → y < n → pair_at n (place n x y) ≡ (x, y)
 place_ends n x y h l = (place_in n 0 x x y (omega arith) h (omega arith)).ends
+
+-- the place of a rule's fields is its number
+at_place : (x more r : ℕ) → r < triangle more → rules_before more ((pair_from x more r).0 - x) + ((pair_from x more r).1 - (pair_from x more r).0 - 1) ≡ r
+at_place x zero r h = absurd (omega arith)
+at_place x (suc more) r h =
+    ⊎_elim
+    (λ l. subst (λ (e : ℕ × ℕ). rules_before (suc more) (e.0 - x) + (e.1 - e.0 - 1) ≡ r) (sym (pair_first x more r l))
+    (let none : x - x ≡ 0 = omega arith in subst (λ k. rules_before (suc more) k + (x + 1 + r - x - 1) ≡ r) (sym none) (omega arith)))
+    (λ l. let i = at_place (x + 1) more (r - more) (omega arith) in
+    let u = (pair_from (x + 1) more (r - more)).0 in
+    let y = (pair_from (x + 1) more (r - more)).1 in
+    let low : x + 1 ≤ u = (ends_of (x + 1) more (r - more) (omega arith)).low in
+    let one : u - x ≡ suc (u - (x + 1)) = omega arith in
+    subst (λ (e : ℕ × ℕ). rules_before (suc more) (e.0 - x) + (e.1 - e.0 - 1) ≡ r) (sym (pair_later x more r l))
+    (subst (λ k. rules_before (suc more) k + (y - u - 1) ≡ r) (sym one) (omega arith)))
+    (cases_lt r more)
+
+pub place_of_ends : (n r : ℕ) → r < triangle n → place n (pair_at n r).0 (pair_at n r).1 ≡ r
+place_of_ends n r h =
+    let u = (pair_at n r).0 in
+    let e : u - 0 ≡ u = omega arith in subst (λ k. rules_before n k + ((pair_at n r).1 - u - 1) ≡ r) e (at_place 0 n r h)
+
+-- the closed form of the count of rules before those of x
+pub rules_before_twice : (n x : ℕ) → x ≤ n → 2 * rules_before n x + x * suc x ≡ 2 * (n * x)
+rules_before_twice zero zero h = refl
+rules_before_twice zero (suc x) h = absurd (omega arith)
+rules_before_twice (suc n) zero h = omega arith
+rules_before_twice (suc n) (suc x) h =
+    let r = rules_before_twice n x (omega arith) in
+    omega (arith, suc-mul n (suc x), mul-suc n x, suc-mul x (suc (suc x)), mul-suc x (suc x))

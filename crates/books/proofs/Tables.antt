@@ -32,6 +32,12 @@ asked_table ends rows r =
     let same : 0 + r ≡ r = omega arith in
     asked_made (table_rule rows r) (table_rules ends rows) ends r (made_from 0 ends rows r ∙ ap (λ k. option_map_or (table_rule rows k) (slice_get ends r) no_rule) same)
 
+-- the test of the left option counts once
+pub once : (f x y h : Bool) → (f && ((x && y) && h)) ≡ (f && ((x && y) && (x && h)))
+once true true y h = refl
+once true false y h = refl
+once false x y h = refl
+
 true_and : (x y : Bool) → T x → (x && y) ≡ y
 true_and true y t = refl
 true_and false y t = absurd t

@@ -1,8 +1,12 @@
 -- A list in two parts, the front that is entered and the rest that is free.
-use Rattle.std.proofs.Common.{◌≡◌, ℕ, zero, suc, ◌+◌, ◌<◌, ◌≤◌, min, Bool, true, cond, ltb, ◌⊎◌, List, [], ◌∷◌, ◌++◌, length, take, set, replicate, sym, refl, ap, ◌∙◌, inl, inr, arith}
+use Rattle.std.proofs.Common.{◌≡◌, ℕ, zero, suc, ◌+◌, ◌<◌, ◌≤◌, min, Bool, true, cond, ltb, ◌⊎◌, List, [], ◌∷◌, ◌++◌, length, take, drop, set, replicate, sym, refl, ap, ◌∙◌, inl, inr, arith}
 use Rattle.catalogue.specs.Lent.{Places, added, extended, replaced}
-use Rattle.std.proofs.lemmas.List.{drop-drop, take_all, append_assoc, replicate_more, length-drop, set_past}
+use Rattle.std.proofs.lemmas.List.{drop-set-lt, drop-drop, take_all, append_assoc, replicate_more, length-drop, set_past}
 use Rattle.std.proofs.lemmas.Bool.{cases_lt, lt-ltb, cond-true}
+
+-- the free places after one more was filled
+pub free_next : {X : Type 0} (xs : List X) (n : ℕ) (v : X) → drop (n + 1) (set xs n v) ≡ drop 1 (drop n xs)
+free_next xs n v = drop-set-lt (n + 1) xs n v (omega arith) ∙ sym (drop-drop 1 n xs)
 
 -- a change within the front
 pub take_set : {X : Type 0} (xs : List X) (n i : ℕ) (v : X) → i < n → take n (set xs i v) ≡ set (take n xs) i v

@@ -1,7 +1,7 @@
 -- The strikes of a choose: how they are made, one option after another, and that they leave the chosen option alone in its field.
-use Rattle.std.proofs.Common.{◌≡◌, ℕ, zero, suc, ◌+◌, ◌-◌, ◌*◌, ◌/◌, ◌%◌, ◌^◌, ◌<◌, Bool, true, false, cond, not, ◌&&◌, T, eqb, ltb, List, [], ◌∷◌, ◌++◌, get_or, set, sym, refl, ap, ◌∙◌, subst, inl, inr, ⊎_elim, mul_assoc, mul_comm, add-mul, pow-suc, add-one, arith}
+use Rattle.std.proofs.Common.{◌≡◌, ℕ, zero, suc, ◌+◌, ◌-◌, ◌*◌, ◌/◌, ◌%◌, ◌^◌, ◌<◌, ◌≤◌, Bool, true, false, cond, not, ◌&&◌, T, eqb, ltb, List, [], ◌∷◌, ◌++◌, length, get_or, set, sym, refl, ap, ◌∙◌, subst, inl, inr, ⊎_elim, mul_assoc, mul_comm, add-mul, suc-add, pow-suc, zero-add, add-one, arith}
 use Rattle.std.proofs.lemmas.Nat.{pow_pos, pow_below, shr-shr, div-add-mod', div-mul-add, div_below, mod_below}
-use Rattle.std.proofs.lemmas.List.{append-nil, get_or-set_same, set-set, set-get_or}
+use Rattle.std.proofs.lemmas.List.{append-nil, length-append, get_or-set_same, set-set, set-get_or}
 use Rattle.std.proofs.lemmas.Bool.{cases_Bool, cases_lt, cases_eq, eq-eqb, ne_eqb, eqb-true, eqb-false, lt-ltb, le-ltb, cond-true, cond-false, and_from, and_parts, and_cases, not-true, not-false, not_from_false, both_ways}
 use Rattle.network.specs.Network.{option_limit, has, part, Rule}
 use Rattle.network.specs.Sets.{set_without}
@@ -21,21 +21,40 @@ abbrev pub chosen_out : ℕ → ℕ → ℕ → Strike
 chosen_out x a b = record { field = x; option = b; cause = Decided (decision.Choose x a) }
 
 -- whether a choose of a strikes b
-abbrev goes : ℕ → ℕ → ℕ → Bool
+abbrev pub goes : ℕ → ℕ → ℕ → Bool
 goes w a b = has w b && not (eqb b a)
 
 module _ (w x a : ℕ) where
-  below_none : strikes_below 0 w x a ≡ []
+  pub below_none : strikes_below 0 w x a ≡ []
   unfolding strikes_below
   below_none = refl
 
-  below_goes : (b : ℕ) → goes w a b ≡ true → strikes_below (suc b) w x a ≡ strikes_below b w x a ++ chosen_out x a b ∷ []
+  pub below_goes : (b : ℕ) → goes w a b ≡ true → strikes_below (suc b) w x a ≡ strikes_below b w x a ++ chosen_out x a b ∷ []
   unfolding strikes_below
   below_goes b h = ap (λ t. strikes_below b w x a ++ cond t (chosen_out x a b ∷ []) []) h
 
-  below_stays : (b : ℕ) → goes w a b ≡ false → strikes_below (suc b) w x a ≡ strikes_below b w x a
+  pub below_stays : (b : ℕ) → goes w a b ≡ false → strikes_below (suc b) w x a ≡ strikes_below b w x a
   unfolding strikes_below
   below_stays b h = ap (λ t. strikes_below b w x a ++ cond t (chosen_out x a b ∷ []) []) h ∙ append-nil (strikes_below b w x a)
+
+  below_grows : (b k : ℕ) → length (strikes_below b w x a) ≤ length (strikes_below (k + b) w x a)
+  below_grows b zero = rw zero-add (omega arith)
+  below_grows b (suc k) =
+      let ih = below_grows b k in
+      ⊎_elim
+      (λ t. let f = ap length (below_goes (k + b) t) in let l = length-append (strikes_below (k + b) w x a) (chosen_out x a (k + b) ∷ []) in rw suc-add (omega arith))
+      (λ t. let f = ap length (below_stays (k + b) t) in rw suc-add (omega arith))
+      (cases_Bool (goes w a (k + b)))
+
+  -- one that goes comes before the end
+  pub below_room : (b : ℕ) → b < option_limit → goes w a b ≡ true → length (strikes_below b w x a) < length (choose_strikes w x a)
+  below_room b lt h =
+      let n : ℕ = option_limit - suc b in
+      let e : n + suc b ≡ option_limit = omega arith in
+      let g : length (strikes_below (suc b) w x a) ≤ length (strikes_below option_limit w x a) = rw e at (below_grows (suc b) n) in
+      let f = ap length (below_goes b h) in
+      let l = length-append (strikes_below b w x a) (chosen_out x a b ∷ []) in
+      omega arith
 
 -- a set with no option below n has none that a choose strikes there
 none_below : (w x a n : ℕ) → ((b : ℕ) → b < n → has w b ≡ false) → strikes_below n w x a ≡ []

@@ -1,21 +1,23 @@
 -- What is true of every open draft, and stays true after a call.
-use Rattle.std.proofs.Common.{◌≡◌, ℕ, ◌+◌, ◌-◌, ◌^◌, ◌<◌, ◌≤◌, true, false, eqb, leb, List, [], ◌∷◌, ◌++◌, length, get_or, take, drop, set, is_ok, Ok, vec_items, vec_len, sym, refl, ap, ◌∙◌, subst, ⊎_elim, arith}
+use Rattle.std.proofs.Common.{◌≡◌, ℕ, ◌+◌, ◌-◌, ◌^◌, ◌<◌, ◌≤◌, Bool, true, false, eqb, leb, List, [], ◌∷◌, ◌++◌, length, get_or, take, drop, set, is_ok, Ok, vec_items, vec_len, sym, refl, ap, ◌∙◌, subst, ⊎_elim, arith}
 use Rattle.std.proofs.lemmas.Nat.{pow_pos}
-use Rattle.std.proofs.lemmas.List.{length-append, length-take-le}
-use Rattle.std.proofs.lemmas.Bool.{cases_Bool, and_from, both_ways, le-leb, eqb-false}
+use Rattle.std.proofs.lemmas.List.{length-append, length-take-le, get_or_read}
+use Rattle.std.proofs.lemmas.Bool.{cases_Bool, and_from, both_ways, le-leb, eqb-true, eqb-false}
 use Rattle.network.specs.Network.{Rule, has, part}
 use Rattle.network.specs.declared.options.OptionSet.{OptionSet}
 use Rattle.network.specs.Sets.{set_without}
 use Rattle.network.proofs.Truth.{T_yes}
+use Rattle.network.proofs.Bits.{has_le}
 use Rattle.network.proofs.Masks.{without_is}
 use Rattle.network.proofs.Words.{length_words, word_of}
 use Rattle.propagation.specs.Strikes.{without, left_by, Struck}
+use Rattle.propagation.specs.Opening.{Accepted}
 use Rattle.propagation.specs.Progress.{Filled}
 use Rattle.propagation.specs.Undo.{Fit, put_all}
 use Rattle.propagation.specs.declared.record.Decision.{Decision}
 use Rattle.propagation.specs.declared.record.Decision.TheVariants as decision
 use Rattle.propagation.specs.declared.record.Strike.{Strike}
-use Rattle.draft.specs.Draft.{State, Outcome, Step, decision_limit, choose_strikes, latest_mark, no_decision, decide, settled, take_back}
+use Rattle.draft.specs.Draft.{State, Outcome, Step, opened, decision_limit, choose_strikes, latest_mark, no_decision, decide, settled, take_back}
 use Rattle.draft.specs.Law.{KeepsTheLaw}
 use Rattle.draft.specs.Sound.{Sound, stood, rising, record_limit}
 use Rattle.draft.specs.View.{held, led_to, view, is_open, Answers, Found}
@@ -60,6 +62,29 @@ module _ (o : Opened) where
     pub word_read : r.word ≡ get_or (held o).standing x 0
     word_read = ap (λ s. s.word) is ∙ sym (word_of (vec_items o.standing) x r (omega (arith, standing_long, o.standing.ok.0)))
 
+    pub part_read : (a : ℕ) (b : Bool) → b ≡ has r.word a → part (held o).standing x a ≡ b
+    part_read a b e = ap (λ v. has v a) (sym word_read) ∙ sym e
+
+  -- the latest decision
+  module _ (some : 0 < vec_len o.taken) where
+    pub last_read : (n : ℕ) (t : Taken) → n ≡ vec_len o.taken → t ≡ get_or (vec_items o.taken) (n - 1) t → t.mark ≡ latest_mark (held o)
+    last_read n t e is =
+        let same : n - 1 ≡ length (vec_items o.taken) - 1 = omega (arith, o.taken.ok.0) in
+        ap (λ u. u.mark) (get_or_read (vec_items o.taken) (n - 1) t (omega (arith, o.taken.ok.0)) is no_decision ∙ ap (λ k. get_or (vec_items o.taken) k no_decision) same)
+
+-- a new draft
+pub fresh : (rules : List Rule) (sets : List ℕ) → Accepted rules sets → Sound (opened sets)
+fresh rules sets ok = record {
+  some = ok.some;
+  few = ok.few;
+  fit = ok.fit;
+  filled = ok.filled;
+  stands = refl;
+  struck = refl;
+  decided = omega arith;
+  marks = refl;
+}
+
 module _ (s : State) (k : Sound s) where
   pub standing_length : length s.standing ≡ length s.opening
   standing_length = ap length k.stands ∙ length_left_by s.opening s.strikes
@@ -71,6 +96,12 @@ module _ (s : State) (k : Sound s) where
   module _ (x a : ℕ) (r : OptionSet) (f : Found s x a r) (others : ℕ) (less : others ≡ set_without r.word a) where
     pub others_are : others ≡ get_or s.standing x 0 - 2 ^ a
     others_are = less ∙ without_is r.word a (T_yes _ (ap (λ w. has w a) f.word ∙ f.stands)) ∙ ap (λ w. w - 2 ^ a) f.word
+
+    holds : 2 ^ a ≤ get_or s.standing x 0
+    holds = has_le (get_or s.standing x 0) a (T_yes _ f.stands)
+
+    pub is_last : true ≡ eqb others 0 → get_or s.standing x 0 ≡ 2 ^ a
+    is_last e = let none = eqb-true others 0 (sym e) in omega (arith, others_are, holds)
 
     pub is_not_last : false ≡ eqb others 0 → get_or s.standing x 0 ≡ 2 ^ a → ⊥
     is_not_last e l = let some = eqb-false others 0 (sym e) in some (omega (arith, others_are))
@@ -129,14 +160,18 @@ module _ (s : State) (k : Sound s) where
     struck_others : Struck [] only_this s.standing (choose_strikes (get_or s.standing x 0) x a) (set s.standing x (2 ^ a))
     struck_others = choose_struck [] only_this x a (0, (omega arith, λ _. refl)) s.standing (T_yes _ there) (standing_fit x)
 
+    pub others_left : set s.standing x (2 ^ a) ≡ left_by s.standing (choose_strikes (get_or s.standing x 0) x a)
+    others_left = struck_left [] only_this s.standing (choose_strikes (get_or s.standing x 0) x a) (set s.standing x (2 ^ a)) struck_others
+
     pub others_stood : stood s.standing (choose_strikes (get_or s.standing x 0) x a) ≡ true
     others_stood = struck_all_stood [] only_this s.standing (choose_strikes (get_or s.standing x 0) x a) (set s.standing x (2 ^ a)) struck_others
 
+    pub filled_chosen : Filled (set s.standing x (2 ^ a))
+    filled_chosen = filled_set s.standing x (2 ^ a) k.filled (pow_pos a)
+
     pub sound_chosen : (length s.taken ≡ decision_limit → ⊥) → Sound (decide s (decision.Choose x a) (choose_strikes (get_or s.standing x 0) x a) (set s.standing x (2 ^ a)))
     sound_chosen =
-        sound_decided (choose_strikes (get_or s.standing x 0) x a) others_stood (set s.standing x (2 ^ a))
-        (struck_left [] only_this s.standing (choose_strikes (get_or s.standing x 0) x a) (set s.standing x (2 ^ a)) struck_others)
-        (filled_set s.standing x (2 ^ a) k.filled (pow_pos a)) (decision.Choose x a)
+        sound_decided (choose_strikes (get_or s.standing x 0) x a) others_stood (set s.standing x (2 ^ a)) others_left filled_chosen (decision.Choose x a)
 
   -- the latest decision
   module _ (some : 0 < length s.taken) where
@@ -146,7 +181,7 @@ module _ (s : State) (k : Sound s) where
     marks_drop : (rising (take (length s.taken - 1) s.taken) mark ≡ true) × (mark ≤ length s.strikes)
     marks_drop = rising_drop s.taken (length s.strikes) no_decision some k.marks
 
-    last_within : mark ≤ length s.strikes
+    pub last_within : mark ≤ length s.strikes
     last_within = marks_drop.1
 
     pub standing_back : put_all s.standing (drop mark s.strikes) ≡ left_by s.opening (take mark s.strikes)

@@ -1,5 +1,5 @@
 -- A list of calls made one by one.
-use Rattle.std.proofs.Common.{◌≡◌, ℕ, true, false, List, [], ◌∷◌, ◌++◌, map, Err, vec_items, Decides, Vec, sym, ap, ◌∙◌, subst, ⊎_elim}
+use Rattle.std.proofs.Common.{◌≡◌, ℕ, true, false, List, [], ◌∷◌, ◌++◌, map, length, Err, vec_items, Decides, Vec, sym, refl, ap, ◌∙◌, subst, ⊎_elim, arith}
 use Rattle.std.specs.declared.alloc.Global.{Global}
 use Rattle.std.proofs.lemmas.List.{map-append, reverse-append}
 use Rattle.std.proofs.lemmas.Bool.{cases_Bool}
@@ -14,6 +14,10 @@ use Rattle.draft.specs.declared.types.Call.{Call}
 use Rattle.draft.proofs.Laws.{lawful_run}
 
 module _ {B W : Type 0} (rules : List Rule) (d : Draft B W) where
+  pub performed_none : (answers : List Outcome) → length answers ≡ 0 → Performed rules d [] answers d
+  performed_none [] h = record { same = refl; ran = λ yes. ([], (record { asked = refl; answered = refl }, refl)); shut = λ no. (refl, refl) }
+  performed_none (a ∷ answers) h = absurd (omega (arith, h))
+
   pub performed_more : (now d' : Draft B W) (calls : List Call) (answers : List Outcome) (asked : Call) (answer : Outcome) → Performed rules d calls answers now → Answers rules now asked answer d' → Performed rules d (calls ++ asked ∷ []) (answers ++ answer ∷ []) d'
   performed_more now d' calls answers asked answer before step =
       record {

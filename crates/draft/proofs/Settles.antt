@@ -1,5 +1,6 @@
 -- A settle of an open draft.
-use Rattle.std.proofs.Common.{◌≡◌, ℕ, ◌+◌, ◌<◌, ◌≤◌, List, [], length, get_or, ap, ◌∙◌, arith}
+use Rattle.std.proofs.Common.{◌≡◌, ℕ, ◌+◌, ◌<◌, ◌≤◌, true, false, List, [], length, get_or, is_err, Ok, Err, Result, ap, ◌∙◌, arith, MatchResult}
+use Rattle.faults.specs.declared.EngineFault.{EngineFault}
 use Rattle.network.specs.Network.{Rule}
 use Rattle.propagation.specs.Opening.{Accepted}
 use Rattle.propagation.specs.Progress.{Filled}
@@ -10,6 +11,15 @@ use Rattle.draft.specs.Sound.{Sound, record_limit}
 use Rattle.draft.proofs.Drafts.{standing_length, standing_fit, sound_settled}
 use Rattle.draft.proofs.Strikes.{struck_left}
 use Rattle.draft.proofs.Records.{left_by_le, struck_all_stood, options_left, options_bound}
+
+-- a check that came out well, and one that did not
+pub well : (P : Type 0) (Q : EngineFault → Type 0) (r : Result (Unit {0}) EngineFault) → is_err r ≡ false → MatchResult r (λ _. P) Q → P
+well P Q (Ok x) e h = h
+well P Q (Err why) e h = let z : ◌≡◌ {A = ℕ} 0 1 = cc in absurd (omega arith)
+
+pub badly : (P Q : Type 0) (r : Result (Unit {0}) EngineFault) → is_err r ≡ true → MatchResult r (λ _. P) (λ _. Q) → Q
+badly P Q (Ok x) e h = let z : ◌≡◌ {A = ℕ} 0 1 = cc in absurd (omega arith)
+badly P Q (Err why) e h = h
 
 module _ (s : State) (k : Sound s) where
   -- the record has room for every option that stands

@@ -1,5 +1,5 @@
 -- Only the first bytes of a line matter.
-use Rattle.std.proofs.Common.{◌≡◌, ℕ, ◌-◌, ◌<◌, ◌≤◌, List, length, take, Err, Result, sym, ap, ◌∙◌, subst, inl, inr, arith}
+use Rattle.std.proofs.Common.{◌≡◌, ℕ, ◌-◌, ◌<◌, ◌≤◌, List, length, take, Err, Result, sym, ap, ◌∙◌, subst, inl, inr, arith, lit≤}
 use Rattle.std.proofs.lemmas.Bool.{cases_lt, cond_both, cond-true, lt-ltb}
 use Rattle.std.proofs.lemmas.List.{length-take, take_all}
 use Rattle.faults.specs.declared.LineFault.{LineFault}
@@ -25,8 +25,8 @@ module _ (line : List ℕ) (long : 34 ≤ length line) where
 pub refused : (line : List ℕ) (fault : LineFault) → reading 16 line ≡ Err fault → Received line (Err (Line fault))
 refused line fault e = record {
   bad_line = λ other o. let both : Err fault ≡ Err other = sym e ∙ o in cc;
-  good_line = λ bytes f is. no_frame line fault e bytes f is;
-  accepts = λ frame h is. no_frame line fault e (frame_bytes frame) (is_frame frame h) is;
+  good_line = λ bytes f is. no_frame 16 line fault (sym e) bytes f is (lit≤ tt);
+  accepts = λ frame h is. no_frame 16 line fault (sym e) (frame_bytes frame) (is_frame frame h) is (lit≤ tt);
   only = tt;
 }
 

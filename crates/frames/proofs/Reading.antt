@@ -1,6 +1,6 @@
 -- What an accepted line is, and that the line of a frame reads back as that frame.
-use Rattle.std.proofs.Common.{◌≡◌, ℕ, suc, ◌+◌, ◌-◌, ◌/◌, ◌%◌, ◌<◌, ◌≤◌, true, cond, eqb, ltb, List, [], ◌∷◌, ◌++◌, length, get_or, take, None, Ok, Err, sym, refl, ap, ◌∙◌, inl, inr, arith, lit≤}
-use Rattle.std.proofs.lemmas.Bool.{cases_Bool, cond-true, cond-false, eqb-true, eq-eqb, ne_eqb, le-ltb}
+use Rattle.std.proofs.Common.{◌≡◌, ℕ, suc, ◌+◌, ◌-◌, ◌/◌, ◌%◌, ◌<◌, ◌≤◌, Bool, true, false, cond, eqb, ltb, List, [], ◌∷◌, ◌++◌, length, get_or, take, Some, None, Ok, Err, Option, Result, sym, refl, ap, ◌∙◌, inl, inr, arith}
+use Rattle.std.proofs.lemmas.Bool.{cases_Bool, cond-true, cond-false, eqb-true, eqb-false, eq-eqb, ne_eqb, ltb-false, le-ltb}
 use Rattle.std.proofs.lemmas.List.{length_push, get_or_push, take_more, take_all, take_at, append_cancel_right}
 use Rattle.std.specs.List.{All}
 use Rattle.faults.specs.declared.LineFault.{LineFault}
@@ -29,6 +29,63 @@ joined (b ∷ rest) e =
     let size : length line - cond (ended line) 1 0 ≡ k = ap (λ t. length line - cond t 1 0) e in
     let more : take (k + 1) line ≡ line = take_all (k + 1) line (omega arith) in
     sym more ∙ take_more line k 0 (omega arith) ∙ ap (λ x. take k line ++ x ∷ []) last ∙ ap (λ n. take n line ++ 10 ∷ []) (sym size)
+
+-- what is known of a line that is accepted
+pub record Accepted (room : ℕ) (line : List ℕ) (n : ℕ) : Type 0 where
+  pub wide : 16 ≤ room
+  pub short : length (before_end line) ≤ 32
+  pub good : bad_digit 0 (before_end line) ≡ None
+  pub even : length (before_end line) % 2 ≡ 0
+  pub some : length (before_end line) ≡ 0 → ⊥
+  pub end : ended line ≡ true
+  pub size : n ≡ length (before_end line) / 2
+
+module _ {X : Type 0} where
+  refused : (e : LineFault) (n : ℕ) → Err e ≡ Ok n → X
+  refused e n h = let z : ◌≡◌ {A = ℕ} 0 1 = cc in absurd (omega arith)
+
+pub no_fault : {X : Type 0} (n : ℕ) (e : LineFault) → Ok n ≡ Err e → X
+no_fault n e h = refused e n (sym h)
+
+pub told : (m n : ℕ) → ◌≡◌ {A = Result ℕ LineFault} (Ok m) (Ok n) → m ≡ n
+told m n h = cc
+
+-- a test that would refuse was not met
+passes : (t : Bool) (e : LineFault) (r : Result ℕ LineFault) (n : ℕ) → cond t (Err e) r ≡ Ok n → (t ≡ false) × (r ≡ Ok n)
+passes true e r n h = refused e n h
+passes false e r n h = (refl, h)
+
+met : (t : Bool) (e : LineFault) (r : Result ℕ LineFault) (n : ℕ) → cond t r (Err e) ≡ Ok n → (t ≡ true) × (r ≡ Ok n)
+met true e r n h = (refl, h)
+met false e r n h = refused e n h
+
+after_parts : (body : List ℕ) (end : Bool) (o : Option ℕ) (n : ℕ) → after_digits body end o ≡ Ok n →
+    (o ≡ None) × ((eqb (length body % 2) 1 ≡ false) × ((eqb (length body) 0 ≡ false) × ((end ≡ true) × (length body / 2 ≡ n))))
+after_parts body end (Some place) n h = refused _ n h
+after_parts body end None n h =
+    let a = passes _ _ _ n h in
+    let b = passes _ _ _ n a.1 in
+    let c = met _ _ _ n b.1 in
+    (refl, (a.0, (b.0, (c.0, told _ n c.1))))
+
+pub accepted : (room : ℕ) (line : List ℕ) (n : ℕ) → reading room line ≡ Ok n → Accepted room line n
+accepted room line n h =
+    let a = passes _ _ _ n h in
+    let b = passes _ _ _ n a.1 in
+    let c = after_parts (before_end line) (ended line) (bad_digit 0 (before_end line)) n b.1 in
+    record {
+      wide = ltb-false room 16 a.0;
+      short = ltb-false 32 (length (before_end line)) b.0;
+      good = c.0;
+      even = omega (arith, eqb-false (length (before_end line) % 2) 1 c.1.0);
+      some = eqb-false (length (before_end line)) 0 c.1.1.0;
+      end = c.1.1.1.0;
+      size = sym c.1.1.1.1;
+    }
+
+-- the room counts only up to 16
+pub same_reading : (room : ℕ) (line : List ℕ) → 16 ≤ room → reading 16 line ≡ reading room line
+same_reading room line h = sym (cond-false (ltb room 16) _ _ (le-ltb room 16 h))
 
 pub no_bad_digit : (bytes : List ℕ) (at : ℕ) → ((k : ℕ) → get_or bytes k 0 < 256) → bad_digit at (digits bytes) ≡ None
 no_bad_digit [] at fit = refl
@@ -71,10 +128,8 @@ reads_back room bytes wide f =
     ∙ ap Ok half
 
 -- a line that is refused is the line of no frame
-pub no_frame : {X : Type 0} (line : List ℕ) (fault : LineFault) → reading 16 line ≡ Err fault → (bytes : List ℕ) → IsFrame bytes → line ≡ line_of bytes → X
-no_frame line fault e bytes f is =
-    let both : Err fault ≡ Ok (length bytes) = sym e ∙ ap (reading 16) is ∙ reads_back 16 bytes (lit≤ tt) f in
-    cc
+pub no_frame : {X : Type 0} (room : ℕ) (line : List ℕ) (fault : LineFault) → Err fault ≡ reading room line → (bytes : List ℕ) → IsFrame bytes → line ≡ line_of bytes → 16 ≤ room → X
+no_frame room line fault e bytes f is wide = refused fault (length bytes) (e ∙ ap (reading room) is ∙ reads_back room bytes wide f)
 
 -- a line that is accepted, once the bytes of its digits are known
 module _ (line bytes : List ℕ) (is : digits bytes ≡ before_end line) where

@@ -1,5 +1,5 @@
 -- What masks of one option do to a set word, over any width k.
-use Rattle.std.proofs.Common.{◌≡◌, ℕ, zero, suc, ◌+◌, ◌-◌, ◌*◌, ◌/◌, ◌%◌, ◌^◌, ◌<◌, ◌≤◌, min, true, false, cond, not, ◌&&◌, T, eqb, ltb, sym, refl, ap, ◌∙◌, subst, ⊎_elim, pow-suc, arith}
+use Rattle.std.proofs.Common.{◌≡◌, ℕ, zero, suc, ◌+◌, ◌-◌, ◌*◌, ◌/◌, ◌%◌, ◌^◌, ◌<◌, ◌≤◌, min, true, false, cond, not, ◌&&◌, ◌||◌, T, eqb, ltb, sym, refl, ap, ◌∙◌, subst, ⊎_elim, pow-suc, arith}
 use lib.Bits.{bit_and, bit_or, and_high, or_add_and, and_step, and_zero_r}
 use lib.Count.{ones, ones-le}
 use Rattle.std.proofs.lemmas.Nat.{pow-add, pow_below, pow_pos, mod_below}
@@ -7,7 +7,7 @@ use Rattle.std.proofs.lemmas.Bool.{eqb-true, eqb-false, eq-eqb, ne_eqb, cases_Bo
 use Rattle.network.specs.Network.{option_limit, has}
 use Rattle.network.specs.Sets.{alone, set_without, set_with}
 use Rattle.network.proofs.Truth.{yes_T, T_yes, T_no, and_true, and_false}
-use Rattle.network.proofs.Bits.{ones_less, has_le, has_less, has_pow, has_none, none_of_zero}
+use Rattle.network.proofs.Bits.{ones_less, has_le, has_less, has_pow, has_none, none_of_zero, has_or}
 
 and_bit : (w a : ℕ) → bit_and w (2 ^ a) ≡ ((w / 2 ^ a) % 2) * 2 ^ a
 and_bit w a =
@@ -76,6 +76,14 @@ or_one k w a h =
     (λ e. let is = cond-false (has w a) (2 ^ a) 0 e in omega arith ∙ sym (cond-false (has w a) w (w + cond (ltb a k) (2 ^ a) 0) e))
     (cases_Bool (has w a))
 
+-- which options these sets have
+pub has_alone : (a b : ℕ) → has (alone a) b ≡ (ltb a option_limit && eqb b a)
+has_alone a b =
+    ⊎_elim
+    (λ e. ap (λ m. has m b) (cond-true (ltb a option_limit) (2 ^ a) 0 e) ∙ has_pow a b ∙ ap (λ t. t && eqb b a) (sym e))
+    (λ e. ap (λ m. has m b) (cond-false (ltb a option_limit) (2 ^ a) 0 e) ∙ none_of_zero b ∙ ap (λ t. t && eqb b a) (sym e))
+    (cases_Bool (ltb a option_limit))
+
 pub has_without : (w a b : ℕ) → has (set_without w a) b ≡ (has w b && not (eqb b a))
 has_without w a b =
     ⊎_elim
@@ -86,6 +94,9 @@ has_without w a b =
     (λ ne. sym (and_true (has w b)) ∙ ap (λ t. has w b && not t) (sym (ne_eqb b a ne)))
     (cases_eq b a))
     (cases_Bool (has w a))
+
+pub has_with : (w a b : ℕ) → w < 2 ^ option_limit → has (set_with w a) b ≡ (has w b || (ltb a option_limit && eqb b a))
+has_with w a b h = ap (λ m. has m b) (sym (or_one option_limit w a h)) ∙ has_or w (alone a) b ∙ ap (λ t. has w b || t) (has_alone a b)
 
 -- an option that is in the set, taken out; one that a field can have, alone
 pub without_is : (w a : ℕ) → T (has w a) → set_without w a ≡ w - 2 ^ a

@@ -1,12 +1,13 @@
 -- What a book tells of a rule that it has.
 use Rattle.std.proofs.Common.{◌≡◌, ℕ, ◌<◌, T, List, sym, ap, ◌∙◌, subst, lt→ltb}
-use Rattle.network.specs.Network.{Rule, rule_at, rule_limit, option_limit, no_field}
+use Rattle.network.specs.Network.{Rule, rule_at, rule_limit, option_limit, no_field, no_fields}
 use Rattle.network.specs.declared.rules.Ends.{Ends}
 use Rattle.network.specs.declared.rules.Side.{Side}
 use Rattle.network.specs.declared.rules.Side.TheVariants.{Left, Right}
 use Rattle.network.proofs.Truth.{and_T}
 use Rattle.books.specs.Reads.{asked, allowed_on, permits_on}
 use Rattle.books.proofs.Asked.{asked_is, allowed_on_by, permits_T, T_permits}
+use Rattle.propagation.specs.Refusals.{unfit}
 use Rattle.propagation.specs.Arcs.{pairs}
 
 module _ (rules : List Rule) (r : ℕ) (small : r < rule_limit) where
@@ -29,6 +30,11 @@ module _ (rules : List Rule) (r : ℕ) (small : r < rule_limit) where
       subst T (sym (told Left a b)) (permits_T (rule_at rules r) Left a b (and_T _ _ (lt→ltb _ no_field l) (lt→ltb _ no_field m)) h k t)
   pairs_allowed Right a b l m h k t =
       subst T (sym (told Right a b)) (permits_T (rule_at rules r) Right a b (and_T _ _ (lt→ltb _ no_field l) (lt→ltb _ no_field m)) h k t)
+
+-- whether it lies between two of n fields
+pub unfit_asked : (rules : List Rule) (r n left right : ℕ) → r < rule_limit → left ≡ (asked rules r).left → right ≡ (asked rules r).right → unfit n (rule_at rules r) ≡ no_fields n left right
+unfit_asked rules r n left right small l m =
+    ap (λ x. no_fields n x (rule_at rules r).right) (sym (asked_left rules r small left l)) ∙ ap (no_fields n left) (sym (asked_right rules r small right m))
 
 -- these are the ends of rule r
 abbrev pub AreEnds : List Rule → ℕ → Ends → Type 0

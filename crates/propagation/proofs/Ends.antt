@@ -14,14 +14,14 @@ use Rattle.network.specs.declared.rules.Arc.{Arc}
 use Rattle.agenda.proofs.Waits.{waits_le}
 use Rattle.propagation.specs.Strikes.{options}
 use Rattle.propagation.specs.Opening.{Accepted, Emptied, Blamed}
-use Rattle.propagation.specs.Arcs.{Supported, own, across, pairs, ArcAt, Revised, ArcOk, Sound, OnlyArcs, Listed, BetweenFields, OthersOk, OthersBut, Neighbours, Still, Elsewhere, number_of}
+use Rattle.propagation.specs.Arcs.{Supported, own, across, pairs, ArcAt, Revised, ArcOk, Sound, OnlyArcs, AllBelow, Listed, BetweenFields, OthersOk, OthersBut, Neighbours, Still, Elsewhere, number_of}
 use Rattle.propagation.specs.Progress.{Progress, Filled, SettledOn, WipedFrom}
 use Rattle.propagation.specs.Turns.{work, Ready, Wiped}
 use Rattle.propagation.specs.declared.arcs.PlacedArc.{PlacedArc}
 use Rattle.propagation.specs.declared.record.Strike.{Strike}
 use Rattle.propagation.specs.declared.record.WipedOut.{WipedOut}
-use Rattle.propagation.proofs.Strikes.{keeps}
-use Rattle.propagation.proofs.Steps.{progress_shrinks, progress_sound, support_stays}
+use Rattle.propagation.proofs.Strikes.{keeps, no_larger}
+use Rattle.propagation.proofs.Steps.{progress_shrinks, progress_sound, progress_length, support_stays}
 use Rattle.propagation.proofs.Puts.{taken_off, taken_same}
 
 -- an arc has one number
@@ -80,7 +80,7 @@ module _ (rules : List Rule) (s s' : List ℕ) (arc : PlacedArc) (revised : Revi
         | inr ne ↦ subst (λ z. ArcOk rules (part z) side r) (sym e) (others r side lt ne off)
       ]
 
-  module _ (at : ArcAt rules s arc) (shrunk : Within (part s') (part s)) where
+  module _ (field : arc.own ≡ own rules arc.arc.side arc.arc.rule) (shrunk : Within (part s') (part s)) where
     -- some options were struck, and the other arcs across from which the field lies were put
     pub others_put : (ends : List Ends) → Listed rules ends → (w w' : Waiting) → Still w w' → Neighbours ends (length rules) arc.own arc.arc.rule w' → OthersBut rules (part s) w (arc.arc) → OthersOk rules (part s') w'
     others_put ends listed w w' more every others r side lt off =
@@ -92,7 +92,7 @@ module _ (rules : List Rule) (s s' : List ℕ) (arc : PlacedArc) (revised : Revi
                 | inl same ↦
                     let turned : side ≡ opposite arc.arc.side = either_side side arc.arc.side (λ e. ne (ap (λ q. number_of q side) same ∙ ap (number_of arc.arc.rule) e)) in
                     let ok : ArcOk rules (part s) (opposite arc.arc.side) arc.arc.rule = subst (λ t. ArcOk rules (part s) t arc.arc.rule) turned (subst (λ q. ArcOk rules (part s) side q) same (others r side lt ne before)) in
-                    subst (λ q. ArcOk rules (part s') side q) (sym same) (subst (λ t. ArcOk rules (part s') t arc.arc.rule) (sym turned) (back_ok rules s s' arc.arc arc.own at.field shrunk revised.stays ok))
+                    subst (λ q. ArcOk rules (part s') side q) (sym same) (subst (λ t. ArcOk rules (part s') t arc.arc.rule) (sym turned) (back_ok rules s s' arc.arc arc.own field shrunk revised.stays ok))
                 | inr other ↦
                     let far : across rules side r ≡ arc.own → ⊥ = λ e. both_ways _ off (every r side lt other (listed.across r side lt ∙ e)) in
                     λ a t. support_stays rules s s' side r a (revised.elsewhere _ far) (others r side lt ne before a (shrunk _ _ t))
@@ -191,3 +191,22 @@ module _ {Z : Type 0} (rules : List Rule) (s s' : List ℕ) (v v' : Vec Strike Z
     ];
     others = λ r side lt ne h. others r side lt (sym (taken_same w w' (arc_number arc) taken _ ne) ∙ h);
   }
+
+-- where every arc waits, none is left to be consistent
+pub all_wait : (rules : List Rule) (p : Part) (w : Waiting) → AllBelow (length rules) w → OthersOk rules p w
+all_wait rules p w every r side lt off = absurd (both_ways _ off (every r side lt))
+
+-- what stands after a done propagation is accepted again
+pub accepted_after : {Z : Type 0} (rules : List Rule) (s s' : List ℕ) (v v' : Vec Strike Z) → Progress rules s v s' v' → Filled s' → Accepted rules s → Accepted rules s'
+accepted_after rules s s' v v' p filled h =
+    let e : length s' ≡ length s = progress_length rules s s' v v' p in
+    record {
+      some = omega (arith, h.some);
+      few = omega (arith, h.few);
+      fit = λ x. omega (arith, no_larger rules [] p.found s s' (p.struck []) x, h.fit x);
+      filled = filled;
+      rules_few = h.rules_few;
+      left_is_field = λ r lt. omega (arith, h.left_is_field r lt);
+      right_is_field = λ r lt. omega (arith, h.right_is_field r lt);
+      ends_differ = h.ends_differ;
+    }

@@ -1,5 +1,6 @@
 mod Searches
 mod Asking
+mod Listing
 pub mod Openings
 pub mod Strikes
 pub mod Undoing

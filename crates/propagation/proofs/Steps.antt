@@ -126,6 +126,9 @@ pub record Walk (rules : List Rule) (sets : List ℕ) (side : Side) (r x waiting
   pub stand : (b : ℕ) → T (has waiting b) → T (part sets x b)
   pub seen : (b : ℕ) → T (part sets x b) → T (has waiting b) ⊎ Supported rules (part sets) side r b
 
+pub walk_start : (rules : List Rule) (sets : List ℕ) (side : Side) (r x : ℕ) → Walk rules sets side r x (get_or sets x 0)
+walk_start rules sets side r x = record { stand = λ b t. t; seen = λ b t. inl t }
+
 module _ (rules : List Rule) (s s' : List ℕ) (side : Side) (r x waiting a : ℕ) (walk : Walk rules s side r x waiting) (first : T (has waiting a)) where
   left : (b : ℕ) → has (waiting - 2 ^ a) b ≡ (has waiting b && not (eqb b a))
   left b = has_less waiting a b first

@@ -99,6 +99,10 @@ module _ (rules : List Rule) (sets : List ℕ) where
     pub forth : (r : ℕ) → r < k → (rule_at rules r).left ≡ x → (rule_at rules r).right ≡ y → T ((rule_at rules r).allows a b)
     pub back : (r : ℕ) → r < k → (rule_at rules r).left ≡ y → (rule_at rules r).right ≡ x → T ((rule_at rules r).allows b a)
 
+  pub stands_none : (x a y b : ℕ) → x ≢ y → T (part sets x a) → T (part sets y b) → StandsUnder 0 x a y b
+  stands_none x a y b ne s t =
+      record { apart = ne; first = s; second = t; forth = λ r l _ _. absurd (omega arith); back = λ r l _ _. absurd (omega arith) }
+
   pub stands_more : (k x a y b : ℕ) → StandsUnder k x a y b
       → ((rule_at rules k).left ≡ x → (rule_at rules k).right ≡ y → T ((rule_at rules k).allows a b))
       → ((rule_at rules k).left ≡ y → (rule_at rules k).right ≡ x → T ((rule_at rules k).allows b a))
@@ -126,6 +130,12 @@ module _ (rules : List Rule) (sets : List ℕ) where
 
   pub stands_mirror : (k x a y b : ℕ) → StandsUnder k x a y b → StandsUnder k y b x a
   stands_mirror k x a y b s = grind (arith, common_steps)
+
+  pub stands_all : (x a y b : ℕ) → StandsUnder (length rules) x a y b → Stands rules sets x a y b
+  stands_all x a y b s = record { apart = s.apart; first = s.first; second = s.second; forth = s.forth; back = s.back }
+
+  pub all_stands : (x a y b : ℕ) → Stands rules sets x a y b → StandsUnder (length rules) x a y b
+  all_stands x a y b s = record { apart = s.apart; first = s.first; second = s.second; forth = s.forth; back = s.back }
 
   pub underway_start : (waits : Part) (q : Pairs)
       → ((x a y b : ℕ) → Stands rules sets x a y b → T (q x a y b))
@@ -235,6 +245,13 @@ module _ (rules : List Rule) (sets : List ℕ) where
   -- a full exact part is not wiped out
   pub tightest_full : (p : Part) (q : Pairs) → Tightest rules sets p q → ((x : ℕ) → x < length sets → (a : ℕ) × T (p x a)) → TightWipedOut rules sets → ⊥
   tightest_full p q h full (x, (l, none)) = let a = full x l in none a.0 (h.all_options x a.0 a.1)
+
+-- what is exact is the same options and the same pairs
+pub tightest_same_options : (rules : List Rule) (sets : List ℕ) (p p' : Part) (q q' : Pairs) → Tightest rules sets p q → Tightest rules sets p' q' → (x a : ℕ) → T (p x a) → T (p' x a)
+tightest_same_options rules sets p p' q q' h k x a t = k.only_options x a (h.all_options x a t)
+
+pub tightest_same_pairs : (rules : List Rule) (sets : List ℕ) (p p' : Part) (q q' : Pairs) → Tightest rules sets p q → Tightest rules sets p' q' → (x a y b : ℕ) → T (q x a y b) → T (q' x a y b)
+tightest_same_pairs rules sets p p' q q' h k x a y b t = k.only_pairs x a y b (h.all_pairs x a y b t)
 
 pub rows_are_exact : RowsAreExact
 rows_are_exact = tightest_rows

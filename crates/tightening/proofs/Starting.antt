@@ -1,8 +1,8 @@
 -- The pairs that stand at the start.
-use Rattle.std.proofs.Common.{◌≡◌, ℕ, ◌+◌, ◌-◌, ◌*◌, ◌^◌, ◌<◌, ◌≤◌, Bool, true, not, ◌&&◌, ◌||◌, T, eqb, ◌≢◌, List, [], length, get_or, take, set, sym, ap, ◌∙◌, subst, arith, lt→ltb}
+use Rattle.std.proofs.Common.{◌≡◌, ℕ, ◌+◌, ◌-◌, ◌*◌, ◌^◌, ◌<◌, ◌≤◌, Bool, true, false, cond, not, ◌&&◌, ◌||◌, T, eqb, ◌≢◌, List, [], length, get_or, take, set, sym, ap, ◌∙◌, subst, ⊎_elim, arith, lt→ltb}
 use Rattle.std.proofs.lemmas.Grind.{common_steps}
-use Rattle.std.proofs.lemmas.List.{length-take-le, get_or-take}
-use Rattle.std.proofs.lemmas.Bool.{eq-eqb, ne_eqb, and_right}
+use Rattle.std.proofs.lemmas.List.{get_or_past, length-take-le, get_or-take}
+use Rattle.std.proofs.lemmas.Bool.{cases_Bool, eq-eqb, ne_eqb, cond-true, cond-false, and_right}
 use Rattle.network.specs.Network.{has, Rule, rule_at, no_rule, part}
 use Rattle.network.specs.declared.rules.Side.TheVariants.{Left}
 use Rattle.network.proofs.Truth.{and_T, T_left, T_right, same_test}
@@ -22,12 +22,30 @@ use Rattle.tightening.proofs.Probing.{StandsUnder, stands_more, stands_fewer, st
 use Rattle.propagation.proofs.Strikes.{is_field}
 use Rattle.tightening.proofs.TakingAway.{cond_in, cond_out, or_left, or_right, or_cases, these, are}
 
+-- FIRST WORDS
+pub first_same : (sets : List ℕ) (x a y : ℕ) → x ≡ y → first_word sets x a y ≡ 0
+first_same sets x a y e = ap (λ t. cond (not t && part sets x a) (get_or sets y 0) 0) (eq-eqb x y e)
+
+pub first_out : (sets : List ℕ) (x a y : ℕ) → part sets x a ≡ false → first_word sets x a y ≡ 0
+first_out sets x a y e = cond-false (not (eqb x y) && part sets x a) (get_or sets y 0) 0 (and_right (not (eqb x y)) _ e)
+
+pub first_past : (sets : List ℕ) (x a y : ℕ) → length sets ≤ x → first_word sets x a y ≡ 0
+first_past sets x a y l = first_out sets x a y (ap (λ w. has w a) (get_or_past sets x 0 l) ∙ none_of_zero a)
+
+pub first_toward : (sets : List ℕ) (x a y : ℕ) → length sets ≤ y → first_word sets x a y ≡ 0
+first_toward sets x a y l =
+    ap (λ w. cond (not (eqb x y) && part sets x a) w 0) (get_or_past sets y 0 l)
+    ∙ ⊎_elim (cond-true _ 0 0) (cond-false _ 0 0) (cases_Bool (not (eqb x y) && part sets x a))
+
 pub first_in : (sets : List ℕ) (x a y : ℕ) → x ≢ y → part sets x a ≡ true → first_word sets x a y ≡ get_or sets y 0
 first_in sets x a y ne e = grind (arith, common_steps)
 
 -- the words below a place are the first ones
 abbrev pub Written : List ℕ → ℕ → List ℕ → Type 0
 Written sets i words = (k : ℕ) → k < i → get_or words k 0 ≡ first_word_at sets k
+
+pub written_none : (sets before : List ℕ) → Written sets 0 before
+written_none sets before = λ k l. absurd (omega arith)
 
 pub written_more : (sets : List ℕ) (i : ℕ) (words : List ℕ) (w : ℕ) → i < length words → w ≡ first_word_at sets i → Written sets i words → Written sets (i + 1) (set words i w)
 written_more sets i words w inside is done = grind (arith, common_steps)
@@ -85,12 +103,18 @@ none_waits w b p e = ap (λ v. has v b || p) e ∙ ap (λ t. t || p) (none_of_ze
 abbrev pub Kept : (ℕ → Bool) → ℕ → ℕ → ℕ → Type 0
 Kept passes w waiting kept = (b : ℕ) → has kept b ≡ (has w b && (has waiting b || passes b))
 
+pub kept_first : (passes : ℕ → Bool) (w : ℕ) → Kept passes w w w
+kept_first passes w b = same_test (has w b) (has w b && (has w b || passes b)) (λ t. and_T _ _ t (or_left _ _ t)) (λ t. T_left (has w b) _ t)
+
 -- one option fewer waits: it passes, or is dropped
 pub kept_passes : (passes : ℕ → Bool) (w waiting kept a : ℕ) → T (has waiting a) → T (passes a) → Kept passes w waiting kept → Kept passes w (waiting - 2 ^ a) kept
 kept_passes passes w waiting kept a h p k b = grind (arith, common_steps, same_test, still, waited)
 
 pub kept_dropped : (passes : ℕ → Bool) (w waiting kept a v : ℕ) → T (has waiting a) → (T (passes a) → ⊥) → v ≡ set_without kept a → Kept passes w waiting kept → Kept passes w (waiting - 2 ^ a) v
 kept_dropped passes w waiting kept a v h out is k b = grind (arith, common_steps, eq-eqb, gone, has_without, other_T, same_test, still, waited)
+
+pub kept_end : (passes : ℕ → Bool) (w waiting kept : ℕ) → waiting ≡ 0 → Kept passes w waiting kept → (b : ℕ) → has kept b ≡ (has w b && passes b)
+kept_end passes w waiting kept e k b = k b ∙ ap (λ t. has w b && t) (none_waits waiting b (passes b) e)
 
 -- ONE RULE MORE
 -- the first k rules of a list

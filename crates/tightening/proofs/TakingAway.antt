@@ -1,5 +1,5 @@
 -- Taking pairs away, word by word.
-use Rattle.std.proofs.Common.{◌≡◌, ℕ, zero, suc, ◌+◌, ◌-◌, ◌*◌, ◌^◌, ◌<◌, ◌≤◌, Bool, true, false, cond, not, ◌&&◌, ◌||◌, T, eqb, ltb, ◌≢◌, ◌⊎◌, List, length, get_or, set, sym, ap, ◌∙◌, subst, inl, inr, ⊎_elim, pow-suc, arith}
+use Rattle.std.proofs.Common.{◌≡◌, ℕ, zero, suc, ◌+◌, ◌-◌, ◌*◌, ◌^◌, ◌<◌, ◌≤◌, Bool, true, false, cond, not, ◌&&◌, ◌||◌, T, eqb, ltb, ◌≢◌, ◌⊎◌, List, length, get_or, set, sym, refl, ap, ◌∙◌, subst, inl, inr, ⊎_elim, pow-suc, arith, eqb→eq}
 use Rattle.std.proofs.lemmas.Grind.{common_steps}
 use lib.Bits.{bit_and}
 use Rattle.std.proofs.Math.Dec.{not_T}
@@ -8,7 +8,7 @@ use Rattle.std.proofs.lemmas.List.{get_or-set_other, length-set}
 use Rattle.std.proofs.lemmas.Bool.{cases_eq, eq-eqb}
 use Rattle.network.specs.Network.{has, Part}
 use Rattle.network.specs.Sets.{set_without}
-use Rattle.network.proofs.Truth.{T_right, same_test}
+use Rattle.network.proofs.Truth.{T_yes, and_T, T_left, T_right, same_test}
 use Rattle.network.proofs.Bits.{has_less, has_and, ones_and}
 use Rattle.network.proofs.Masks.{has_without, ones_without}
 use Rattle.books.specs.Pairs.{Pairs, word_at, pairs_of}
@@ -51,6 +51,11 @@ pub record Are (u x b a v y : ℕ) : Type 0 where
 pub are : (u x b a v y : ℕ) → T (eqb u x && (eqb b a && eqb v y)) → Are u x b a v y
 are u x b a v y t = grind (arith, common_steps)
 
+-- a pair under other names of its numbers
+moved : (q : Pairs) (u x b a v y c d : ℕ) → u ≡ x → b ≡ a → v ≡ y → c ≡ d → T (q u b v c) → T (q x a y d)
+moved q u x b a v y c d e f g h t =
+    subst (λ n. T (q n a y d)) e (subst (λ n. T (q u n y d)) f (subst (λ n. T (q u b n d)) g (subst (λ n. T (q u b v n)) h t)))
+
 module _ (row : Choice) (words : List ℕ) (at : InTable row words) (y : ℕ) (inside : y < row.fields) where
   abbrev n : ℕ
   n = row.fields
@@ -80,6 +85,20 @@ module _ (row : Choice) (words : List ℕ) (at : InTable row words) (y : ℕ) (i
   -- what it is paired with are options
   pub partner_option : TwoWay q → (b : ℕ) → T (has (word_to row words y) b) → b < 32
   partner_option two b t = (pairs_range n words y b x a (two.mirrored x a y b (telling b t))).option
+
+  -- at first nothing is taken away
+  pub back_start : (keep : ℕ → Bool) → TwoWay q → Leaves n words words (less_back q x a y (λ b. keep b || has (word_to row words y) b))
+  back_start keep two = record {
+    pairs = λ u b v c.
+        let g = eqb v x && (eqb c a && eqb u y) in
+        same_test (q u b v c) _
+        (λ t. and_T _ _ t (cond_in g _ (λ s.
+        let e = are v x c a u y s in
+        or_right (keep b) _ (told b (two.mirrored y b x a (moved q u y b b v x c a e.second refl e.first e.option t))))))
+        (λ t. T_left (q u b v c) _ t);
+    long = refl;
+    fewer = omega arith;
+  }
 
 -- what passes is the same, and so is what is left
 pub back_same : (q : Pairs) (x a y : ℕ) (f g : ℕ → Bool) → ((b : ℕ) → f b ≡ g b) → (u b v c : ℕ) → less_back q x a y f u b v c ≡ less_back q x a y g u b v c
@@ -145,6 +164,13 @@ module _ (row : Choice) (words words₁ : List ℕ) (at : InTable row words) (y 
     fewer = now.fewer;
   }
 
+  pub step_end : (w : ℕ) → w ≡ 0 → Leaves row.fields words words₁ (left (λ b. keep b || has w b)) → Leaves row.fields words words₁ (left keep)
+  step_end w e now = record {
+    pairs = λ u b v c. now.pairs u b v c ∙ back_same (pairs_in row words) row.field row.option y _ _ (none_waits keep w e) u b v c;
+    long = now.long;
+    fewer = now.fewer;
+  }
+
 -- and out of its own word by a mask
 module _ (row : Choice) (words words₁ : List ℕ) (at : InTable row words) (y : ℕ) (inside : y < row.fields) (mask v : ℕ) where
   abbrev back : Pairs
@@ -203,6 +229,13 @@ pub below_in : (q : Pairs) (x a : ℕ) (l : Part) (k u b v c : ℕ) → Below q 
 below_in q x a l k u b v c t = grind (arith, common_steps)
 
 module _ (q : Pairs) (x a : ℕ) (l : Part) where
+  -- no field yet
+  pub below_none : (u b v c : ℕ) → q u b v c ≡ less_below q x a l 0 u b v c
+  below_none u b v c =
+      same_test (q u b v c) (less_below q x a l 0 u b v c)
+      (λ t. below_in q x a l 0 u b v c (record { pair = t; forth = λ _ _ h. absurd (omega arith); back = λ _ _ h. absurd (omega arith) }))
+      (λ t. (below_out q x a l 0 u b v c t).pair)
+
   -- one field more
   pub below_more : (k : ℕ) (q₁ : Pairs) → ((u b v c : ℕ) → q₁ u b v c ≡ less_below q x a l k u b v c)
       → (u b v c : ℕ) → less_toward q₁ x a k (l k) u b v c ≡ less_below q x a l (k + 1) u b v c
@@ -236,6 +269,23 @@ module _ (q : Pairs) (x a : ℕ) (l : Part) where
         subst T (sym (is v c u b)) (below_in q x a l k v c u b (record { pair = two.mirrored u b v c o.pair; forth = o.back; back = o.forth }));
     apart = λ u b v c t. two.apart u b v c (below_out q x a l k u b v c (subst T (is u b v c) t)).pair;
   }
+
+  -- all fields
+  pub below_all : (n : ℕ) → TwoWay q → ((u b v c : ℕ) → T (q u b v c) → u < n) → (u b v c : ℕ) → less_below q x a l n u b v c ≡ less_pairs q x a l u b v c
+  below_all n two inside u b v c =
+      same_test (less_below q x a l n u b v c) (less_pairs q x a l u b v c)
+      (λ t.
+      let o = below_out q x a l n u b v c t in
+      and_T _ _ o.pair (and_T _ _
+      (cond_in (eqb u x && eqb b a) _ (λ s. o.forth (eqb→eq u x (T_left (eqb u x) _ s)) (eqb→eq b a (T_right (eqb u x) _ s)) (inside v c u b (two.mirrored u b v c o.pair))))
+      (cond_in (eqb v x && eqb c a) _ (λ s. o.back (eqb→eq v x (T_left (eqb v x) _ s)) (eqb→eq c a (T_right (eqb v x) _ s)) (inside u b v c o.pair)))))
+      (λ t.
+      let r = T_right (q u b v c) _ t in
+      below_in q x a l n u b v c (record {
+        pair = T_left (q u b v c) _ t;
+        forth = λ e f h. cond_out (eqb u x && eqb b a) _ (T_left (cond (eqb u x && eqb b a) (l v c) true) _ r) (and_T _ _ (T_yes _ (eq-eqb u x e)) (T_yes _ (eq-eqb b a f)));
+        back = λ e f h. cond_out (eqb v x && eqb c a) _ (T_right (cond (eqb u x && eqb b a) (l v c) true) _ r) (and_T _ _ (T_yes _ (eq-eqb v x e)) (T_yes _ (eq-eqb c a f)));
+      }))
 
 -- nothing of the first k fields was lost, or fewer options are left
 abbrev pub LostBelow : Choice → List ℕ → Part → ℕ → List ℕ → Type 0
@@ -290,7 +340,15 @@ module _ (row : Choice) (first now : List ℕ) (l : Part) (k : ℕ) (two : TwoWa
         fewer,
   )
 
+-- a row is in the table however the words change
+pub still_in : (row : Choice) (first now : List ℕ) → length now ≡ length first → InTable row first → InTable row now
+still_in row first now e at = record { few = at.few; field = at.field; option = at.option; room = omega (arith, e, at.room) }
+
 -- the end of a row
 pub row_end : (row : Choice) (first now : List ℕ) (l : Part) → TwoWay (pairs_in row first) → Leaves row.fields first now (less_below (pairs_in row first) row.field row.option l row.fields)
     → Leaves row.fields first now (less_pairs (pairs_in row first) row.field row.option l)
 row_end row first now l two left = grind (arith, common_steps)
+
+-- at first the words are as they were
+pub row_start : (row : Choice) (first : List ℕ) (l : Part) → Leaves row.fields first first (less_below (pairs_in row first) row.field row.option l 0)
+row_start row first l = record { pairs = below_none (pairs_in row first) row.field row.option l; long = refl; fewer = omega arith }

@@ -7,7 +7,7 @@ use Rattle.network.specs.Network.{Rule, Part, part, Within, rule_at, PartnerLeft
 use Rattle.propagation.specs.Opening.{IsWipedOut}
 use Rattle.books.specs.Pairs.{Pairs, pair_rule, pair_rules, triangle, pair_at, place}
 use Rattle.tightening.specs.Underway.{Covers, Consistent, Probed}
-use Rattle.tightening.specs.Tightening.{Stands, narrowed, row, StronglyDual, TightOption, TightPair, Tightest}
+use Rattle.tightening.specs.Tightening.{Stands, narrowed, row, InFullLargest, StronglyDual, TightOption, TightPair, Tightest}
 use Rattle.network.proofs.Truth.{yes_T, T_yes, and_T, T_left, T_right}
 use Rattle.propagation.proofs.Strikes.{is_field}
 use Rattle.books.proofs.Pairing.{rule_of, rule_is, rules_length, ends_order, ends_below, place_below, place_ends}
@@ -86,6 +86,13 @@ arc_grows n q q' p w arc = supported_arc n q' p (supported_grows n q q' p w (arc
 pub largest_grows : (n : ℕ) (q q' : Pairs) (p p' : Part) → PairsWithin n q q' → Within p p' → (x a : ℕ)
     → InLargest (pair_rules n q) p x a → InLargest (pair_rules n q') p' x a
 largest_grows n q q' p p' w v x a i = grind (arith, common_steps, arc_grows)
+
+pub full_grows : (n : ℕ) (q q' : Pairs) (p p' : Part) → PairsWithin n q q' → Within p p' → (x a : ℕ)
+    → InFullLargest n (pair_rules n q) p x a → InFullLargest n (pair_rules n q') p' x a
+full_grows n q q' p p' w v x a i = record {
+  full = λ z l. let c = i.full z l in (c.0, largest_grows n q q' p p' w v z c.0 c.1);
+  member = largest_grows n q q' p p' w v x a i.member;
+}
 
 -- what a largest part has is in the whole
 pub largest_within : (rules : List Rule) (p : Part) (x a : ℕ) → InLargest rules p x a → T (p x a)
@@ -252,6 +259,15 @@ module _ (rules : List Rule) (sets : List ℕ) where
   pub covers_empty : (p : Part) (q : Pairs) (x : ℕ) → Covers rules sets p q → ((a : ℕ) → T (p x a) → ⊥) → (a : ℕ) → TightOption rules sets x a → ⊥
   covers_empty p q x cov none a o = none a (cov.options x a o)
 
+  -- where one field is empty in the largest part, all are
+  pub tight_together : (x : ℕ) → x < length sets → ((a : ℕ) → TightOption rules sets x a → ⊥) → (y b : ℕ) → TightOption rules sets y b → ⊥
+  tight_together x h none y b (p, (q, (sd, t))) =
+      ⊎_elim
+      (λ e. none b (subst (λ z. TightOption rules sets z b) e (p, (q, (sd, t)))))
+      (λ ne. let m = arc_supported (length sets) q p sd.arc y b x (is_field sets y b (sd.options y b t)) h ne t in none m.option (p, (q, (sd, m.kept))))
+      (cases_eq y x)
+
+  -- AFTER A TIGHTENING
   pub tightest_covers : (p : Part) (q : Pairs) → Tightest rules sets p q → Covers rules sets p q
   tightest_covers p q h = record { options = h.only_options; pairs = h.only_pairs }
 

@@ -1,5 +1,5 @@
 -- Trying out a probe's sets: what it starts from, and what its outcome tells of the probe.
-use Rattle.std.proofs.Common.{◌≡◌, ℕ, zero, suc, ◌*◌, ◌^◌, ◌<◌, ◌≤◌, Bool, true, false, cond, not, ◌||◌, T, eqb, ◌≢◌, List, [], ◌∷◌, length, get_or, Ok, sym, refl, ap, ◌∙◌, subst, ⊎_elim, arith}
+use Rattle.std.proofs.Common.{◌≡◌, ℕ, zero, suc, ◌*◌, ◌^◌, ◌<◌, ◌≤◌, Bool, true, false, cond, not, ◌||◌, T, eqb, ◌≢◌, List, [], ◌∷◌, length, get_or, is_err, Ok, Err, Result, sym, refl, ap, ◌∙◌, subst, ⊎_elim, arith, MatchResult}
 use Rattle.std.proofs.lemmas.Grind.{common_steps}
 use native.Mathlib.Nat.{min_comm, min-eq_left}
 use Rattle.std.proofs.lemmas.Bool.{cases_eq, cases_lt, eq-eqb, ne_eqb, eqb-true, eqb-false}
@@ -11,7 +11,8 @@ use lib.Count.{ones-le}
 use Rattle.network.proofs.Bits.{none_of_zero, has_pow}
 use Rattle.books.specs.Pairs.{Pairs, pairs_of, pair_rules, pair_book}
 use Rattle.propagation.specs.Opening.{Accepted, IsWipedOut}
-use Rattle.propagation.specs.Progress.{Filled, SettledOn}
+use Rattle.propagation.specs.Progress.{Filled, SettledOn, WipedFrom}
+use Rattle.propagation.specs.declared.record.WipedOut.{WipedOut}
 use Rattle.propagation.specs.Refusals.{any, empty}
 use Rattle.propagation.specs.Strikes.{options, Struck, without}
 use Rattle.propagation.specs.Undo.{Fit}
@@ -160,6 +161,15 @@ module _ (sets pairs pairs' : List OptionSet) (n f : ℕ) (long : length sets �
       let all = length_words sets ∙ long in
       subst (λ rs. Accepted rs (words sets)) (ap (λ k. pair_rules k (pairs_of k (words pairs))) all ∙ sym book_is)
       (pair_accepted (words sets) (pairs_of (length (words sets)) (words pairs)) (omega (arith, some, all)) (omega (arith, few, all)) fit (none_empty (words sets) full))
+
+-- a propagation that came out well, and one that did not
+pub settled_well : (P : Type 0) (Q : WipedOut → Type 0) (r : Result (Unit {0}) WipedOut) → is_err r ≡ false → MatchResult r (λ _. P) Q → P
+settled_well P Q (Ok x) e h = h
+settled_well P Q (Err why) e h = absurd (T_no true e tt)
+
+pub settled_badly : (rules : List Rule) (sets : List ℕ) (P : Type 0) (r : Result (Unit {0}) WipedOut) → is_err r ≡ true → MatchResult r (λ _. P) (λ w. WipedFrom rules sets w) → IsWipedOut rules (length sets) (part sets)
+settled_badly rules sets P (Ok x) e h = absurd (T_yes false e)
+settled_badly rules sets P (Err w) e h = (w.field, (h.field, h.emptied))
 
 -- a trial that came out well, told by whether there is no strike
 pub tried_well : (rules : List Rule) (first last : List ℕ) (found : List Strike) (none : Bool) → SettledOn rules first last → Struck rules [] first found last → none ≡ eqb (length found) 0 → Tried rules first last (Ok (not none))

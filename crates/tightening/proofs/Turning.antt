@@ -1,5 +1,5 @@
 -- What one probe does to what holds between two probes.
-use Rattle.std.proofs.Common.{◌≡◌, ℕ, ◌<◌, ◌≤◌, true, false, T, ◌⊎◌, List, length, get_or, set, Ok, Err, sym, ap, ◌∙◌, subst, ⊎_elim, arith}
+use Rattle.std.proofs.Common.{◌≡◌, ℕ, ◌+◌, ◌<◌, ◌≤◌, true, false, T, ◌⊎◌, List, length, get_or, set, Ok, Err, sym, refl, ap, ◌∙◌, subst, ⊎_elim, arith}
 use Rattle.std.proofs.lemmas.Grind.{common_steps}
 use Rattle.std.proofs.lemmas.List.{length-set}
 use Rattle.std.proofs.lemmas.Bool.{eq-eqb, ne_eqb}
@@ -17,7 +17,7 @@ use Rattle.propagation.specs.Progress.{Filled, SettledOn}
 use Rattle.propagation.specs.Strikes.{options, without}
 use Rattle.tightening.specs.Tightening.{narrowed, row, less_pairs, Tightest, TightWipedOut}
 use Rattle.tightening.specs.Rows.{InTable, TwoWay, Leaves, AllPass, row_word}
-use Rattle.tightening.specs.Start.{Room}
+use Rattle.tightening.specs.Start.{Room, StayBeyond}
 use Rattle.tightening.specs.Outcomes.{Tried}
 use Rattle.tightening.specs.declared.outcome.Emptied.{Emptied}
 use Rattle.tightening.specs.Probes.{probes_of, PutOn}
@@ -122,7 +122,7 @@ module _ (rules : List Rule) (first : List ℕ) (n : ℕ) (sets pairs trial last
   )
 
   -- where something was struck, a pair was lost
-  lost_fewer : (pairs' : List ℕ) → Tried own trial last (Ok true)
+  pub lost_fewer : (pairs' : List ℕ) → Tried own trial last (Ok true)
       → (((y : ℕ) → y < n → AllPass q x a y (part last y)) ⊎ (options pairs' < options pairs)) → options pairs' < options pairs
   lost_fewer pairs' (s, (y, (c, (there, gone)))) two =
       ⊎_elim
@@ -148,19 +148,20 @@ module _ (rules : List Rule) (first : List ℕ) (n : ℕ) (sets pairs trial last
     partners y c t p = all y c (b.two_way.mirrored y c x a p)
 
     -- pairs are lost
-    pub between_lost : (pairs' : List ℕ) → Tried own trial last (Ok true) → Leaves n pairs pairs' (less_pairs q x a (part last))
+    pub between_lost : (pairs' : List ℕ) → SettledOn own trial last → Leaves n pairs pairs' (less_pairs q x a (part last)) → Between rules first n sets pairs' w₂
+    between_lost pairs' s leaves = record {
+      fields = b.fields;
+      long = b.long;
+      two_way = less_two_way q (pairs_of n pairs') x a (part last) b.two_way leaves.pairs;
+      underway = underway_pruned rules first (probes_of w) (probes_of w₂) (part sets) q (pairs_of n pairs') x a (part last) b.underway ch.kept (large s) (full s)
+          (less_pairs_is q (pairs_of n pairs') x a (part last) leaves.pairs) later partners;
+    }
+
+    -- and where something was struck, there is less to do
+    pub between_lost_less : (pairs' : List ℕ) → Tried own trial last (Ok true) → Leaves n pairs pairs' (less_pairs q x a (part last))
         → (((y : ℕ) → y < n → AllPass q x a y (part last y)) ⊎ (options pairs' < options pairs))
         → Between rules first n sets pairs' w₂ × (work sets pairs' w₂ ≤ work sets pairs w₁)
-    between_lost pairs' s leaves lost = (
-      record {
-        fields = b.fields;
-        long = b.long;
-        two_way = less_two_way q (pairs_of n pairs') x a (part last) b.two_way leaves.pairs;
-        underway = underway_pruned rules first (probes_of w) (probes_of w₂) (part sets) q (pairs_of n pairs') x a (part last) b.underway ch.kept (large s.0) (full s.0)
-            (less_pairs_is q (pairs_of n pairs') x a (part last) leaves.pairs) later partners;
-      },
-      omega (arith, lost_fewer pairs' s lost, waits_le w₂ 512),
-    )
+    between_lost_less pairs' s leaves lost = (between_lost pairs' s.0 leaves, omega (arith, lost_fewer pairs' s lost, waits_le w₂ 512))
 
     -- a field is emptied
     pub between_struck : (none pairs' sets' : List ℕ) (e : Emptied) → Tried own trial last (Err e) → ((i : ℕ) → get_or none i 0 ≡ 0)
@@ -180,14 +181,31 @@ module _ (rules : List Rule) (first : List ℕ) (n : ℕ) (sets pairs trial last
           omega (arith, options_without sets x a ch.kept, ap options is, leaves.fewer, waits_le w₂ 512),
         )
 
+-- the words beyond stay, as nothing changes
+pub beyond_same : (n : ℕ) (words : List ℕ) → StayBeyond n words words
+beyond_same n words = record { beyond = refl; long = refl }
+
 -- a strike leaves the other fields as they were
 pub filled_without : (sets : List ℕ) (x v : ℕ) → (v ≡ 0 → ⊥) → Filled sets → Filled (set sets x v)
 filled_without sets x v ne filled z l = grind (arith, common_steps)
 
+-- fewer options and pairs are less work, whatever waits
+pub fewer_work : (sets pairs sets' pairs' : List ℕ) (w w' : Waiting) → options sets' + options pairs' < options sets + options pairs → work sets' pairs' w' ≤ work sets pairs w
+fewer_work sets pairs sets' pairs' w w' h = omega (arith, waits_le w' 512)
+
+pub same_work : (sets pairs : List ℕ) (w : Waiting) → work sets pairs w ≤ work sets pairs w
+same_work sets pairs w = omega arith
+
 -- RUNS OF PROBES
+pub beyond_then : (n : ℕ) (words words₁ words₂ : List ℕ) → StayBeyond n words words₁ → StayBeyond n words₁ words₂ → StayBeyond n words words₂
+beyond_then n words words₁ words₂ p q = record { beyond = q.beyond ∙ p.beyond; long = q.long ∙ p.long }
+
 -- what waits once one was taken waited before
 pub only_after : (w w' : Waiting) (n m : ℕ) → Same (less_number w n) w' → ((k : ℕ) → w k ≡ true → k < m) → (k : ℕ) → w' k ≡ true → k < m
 only_after w w' n m taken only k h = grind (arith, common_steps)
+
+pub still_room : (n m : ℕ) (words words' : List ℕ) → m ≡ n → StayBeyond n words words' → Room n words → Room m words'
+still_room n m words words' e s r = omega (arith, e, s.long, r)
 
 -- nothing waits: the end
 pub ended : (rules : List Rule) (first : List ℕ) (n : ℕ) (sets pairs : List ℕ) (w : Waiting) → Between rules first n sets pairs w → Nothing w → Tightest rules first (part sets) (pairs_of n pairs)

@@ -11,6 +11,9 @@ use Rattle.agenda.specs.Jobs.{probe_number, probe_fits, put_job}
 use Rattle.agenda.specs.declared.job.Probe.{Probe}
 use Rattle.tightening.specs.Probes.{probes_of, PutOn}
 
+pub put_none : (w : Waiting) → PutOn w w
+put_none w = record { still = λ k h. h; only = λ o. o }
+
 pub put_then : (w w₁ w₂ : Waiting) → PutOn w w₁ → PutOn w₁ w₂ → PutOn w w₂
 put_then w w₁ w₂ p q = record { still = λ k h. q.still k (p.still k h); only = λ o. q.only (p.only o) }
 

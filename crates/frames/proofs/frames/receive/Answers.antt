@@ -1,4 +1,4 @@
-use Rattle.std.proofs.Common.{◌≡◌, ℕ, List, sym, ap, ◌∙◌}
+use Rattle.std.proofs.Common.{◌≡◌, ℕ, List, sym, ap, ◌∙◌, lit≤}
 use Rattle.std.proofs.lemmas.Result.{err_from_is_err_and}
 use Rattle.frames.specs.Lines.{line_of, IsFrame}
 use Rattle.frames.specs.Frames.{decoding, frame_bytes}
@@ -21,7 +21,7 @@ returns c =
     let decoded : c.decode.result ≡ decoding bytes = c.decode.ensures ∙ ap decoding c.as_slice.ensures.value in
     let as_read = λ (other : List ℕ) (f : IsFrame other) (e : line ≡ line_of other). decoded ∙ ap decoding (line_tells bytes other frame f (sym is ∙ e)) in
     record {
-      bad_line = λ fault e. no_frame line fault e bytes frame is;
+      bad_line = λ fault e. no_frame 16 line fault (sym e) bytes frame is (lit≤ tt);
       good_line = as_read;
       accepts = λ f h e. as_read (frame_bytes f) (is_frame f h) e ∙ decodes f h;
       only = made_of c.decode.result _ (λ f e. is ∙ ap line_of (sym (encodes bytes frame.fit f (sym decoded ∙ e))));

@@ -1,11 +1,11 @@
-use Rattle.std.proofs.Common.{◌≡◌, length, Ok, sym, ap, ◌∙◌}
+use Rattle.std.proofs.Common.{◌≡◌, length, Ok, sym, ap, ◌∙◌, lit≤}
 use Rattle.std.proofs.lemmas.List.{take_at}
 use Rattle.frames.specs.Lines.{reading}
 use Rattle.frames.proofs.Reading.{no_frame, reads_back, line_tells}
 use Rattle.frames.proofs.lines.read_line.Goals as goal
 
 pub returns-in_err-bytes-clause-back : goal.returns-in_err-bytes-clause-back
-returns-in_err-bytes-clause-back c bytes f is wide = no_frame c.args.line.now c.in_err-bytes.field-0.0 c.in_err-bytes.ensures bytes f is
+returns-in_err-bytes-clause-back c bytes f is wide = no_frame 16 c.args.line.now c.in_err-bytes.field-0.0 (sym c.in_err-bytes.ensures) bytes f is (lit≤ tt)
 
 pub returns-clause-answer : goal.returns-clause-answer
 returns-clause-answer c =

@@ -3,7 +3,7 @@ use Rattle.std.proofs.lemmas.List.{with_items_is, length-take-le, take-map}
 use Rattle.std.proofs.lemmas.Result.{err_from_is_err_and}
 use Rattle.network.specs.Network.{words}
 use Rattle.network.proofs.Words.{length_words}
-use Rattle.tightening.proofs.Finishing.{passed, front_words, done, failed}
+use Rattle.tightening.proofs.Finishing.{passed, front_words, done_front, failed}
 use Rattle.tightening.proofs.tighten.tighten_sets.Goals as goal
 
 pub returns-in_err-tighten_copy : goal.returns-in_err-tighten_copy
@@ -35,4 +35,4 @@ returns g c =
     let told = c.in_ok-tighten_copy.ensures in
     let same : c.copy_from_slice.new.self ≡ copy =
     c.copy_from_slice.ensures.after ∙ c.as_slice.ensures.value ∙ with_items_is c.in_ok-copy.copy copy (c.tighten_copy.auto.copy ∙ c.as_mut_slice.ensures.len) in
-    (none, done n (words pairs) (words first) _ is long rules (words sets) (words copy) (words c.copy_from_slice.new.self) (sym (length_words sets)) ok.1 told.0 told.1.0 told.1.1 (ap words same))
+    (none, done_front n (words pairs) (words first) _ is long rules (words sets) (words copy) (words c.copy_from_slice.new.self) (sym (length_words sets)) ok.1 told.0 told.1.0 told.1.1 (ap words same))

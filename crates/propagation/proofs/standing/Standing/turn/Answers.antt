@@ -69,7 +69,7 @@ returns g c =
       cases = record {
         filled = filled_after s s' place.own (progress_length rules s s' _ _ p) done.revised.elsewhere left c.requires.ready.filled;
         only = subst (λ n. OnlyBelow n w') count put.only;
-        others = others_put rules s s' _ revised at (progress_shrinks rules s s' _ _ p) ends listed w w' put.more every c.requires.ready.others;
+        others = others_put rules s s' _ revised at.field (progress_shrinks rules s s' _ _ p) ends listed w w' put.more every c.requires.ready.others;
         less = work_less s s' w w' (done.changed c.if-not-revise.false);
       };
     }

@@ -14,7 +14,7 @@ use Rattle.propagation.specs.Strikes.{without}
 use Rattle.tightening.specs.Outcomes.{Tried}
 use Rattle.propagation.proofs.Strikes.{is_field}
 use Rattle.tightening.proofs.Sets.{all_empty}
-use Rattle.tightening.proofs.Turning.{fits_are, chosen, between_skip, between_kept, between_lost, between_struck, filled_without}
+use Rattle.tightening.proofs.Turning.{fits_are, chosen, between_skip, between_kept, between_lost_less, between_struck, filled_without}
 use Rattle.tightening.proofs.turn.Probing.turn.Goals.{then-x-self-via-then-x-self, then-x-self-via-else-x-self+then-not-contains}
 use Rattle.tightening.proofs.turn.Probing.turn.Goals as goal
 
@@ -53,7 +53,7 @@ returns-in-Ok-true-clause-between g c =
     let ch = chosen s.sets.now s.pairs.now trial last c.args.probe c.from-x.result c.requires s.few s.room c.from-x.ensures c.if-x-self.false (sym c.contains.ensures ∙ c.if-not-contains.false) (c.copy_to.auto.sets ∙ s.trial_long) c.copy_to.ensures c.try_out.auto.trial in
     let tried = subst (λ b. Tried own (words trial) (words last) (Ok b)) c.in-Ok-true.field-0-test c.in-Ok-true.ensures.tried in
     let e : c.take_away.new.row.words.now ≡ c.pairs-in-Ok-true-1.given.0 = search rules in
-    λ rules first w taken b. rw (← e) (between_lost rules first n (words s.sets.now) (words s.pairs.now) (words trial) (words last) c.args.probe w _ ch taken b _ c.take_away.ensures.put c.take_away.ensures.all _ tried c.take_away.ensures.leaves c.take_away.ensures.lost)
+    λ rules first w taken b. rw (← e) (between_lost_less rules first n (words s.sets.now) (words s.pairs.now) (words trial) (words last) c.args.probe w _ ch taken b _ c.take_away.ensures.put c.take_away.ensures.all _ tried c.take_away.ensures.leaves c.take_away.ensures.lost)
 
 -- an option that stands is taken out of its set
 struck : (sets : List OptionSet) (p : Probe) (i : ℕ) (v : OptionSet) → i ≡ p.field → i < length sets → has (get_or sets i (record { word = 0 })).word p.option ≡ true
